@@ -107,11 +107,11 @@ module _ (version : Version) (plain mixed : Bool) (rules : Rules) (are : AreRule
       (λ k. absurd (cc), suits_unmixed parts lane h e (All-tail (HasPart version) (segment Byte bytes) parts had))
   suits_unmixed (segment Kanji bytes ∷ parts) lane h e had = absurd (cc)
 
-  shift_jis_lane : (lane : ℕ) → is_shift_jis (force_of lane) ≡ true → 16 ≡ lane
+  shift_jis_lane : (lane : ℕ) → is_shift_jis (force_of lane) ≡ true → 14 ≡ lane
   unfolding force_of
   shift_jis_lane lane h = grind (arith, common_steps)
 
-  kanji_read : (lane : ℕ) (mode : Mode) (bytes text : List ℕ) → read_segment false mixed (force_of lane) mode bytes ≡ Some text → mode ≡ Kanji → 16 ≡ lane
+  kanji_read : (lane : ℕ) (mode : Mode) (bytes text : List ℕ) → read_segment false mixed (force_of lane) mode bytes ≡ Some text → mode ≡ Kanji → 14 ≡ lane
   unfolding read_segment
   kanji_read lane Numeric bytes text h e = absurd (cc)
   kanji_read lane Alphanumeric bytes text h e = absurd (cc)
@@ -180,7 +180,7 @@ ascii_read : (byte c : ℕ) → ascii_character byte ≡ Some c → read_bytes f
 unfolding read_bytes force_of each_of
 ascii_read byte c h = put_both (ascii_character byte) (Some []) c [] h refl
 
-common_read : (bytes : List ℕ) (c : ℕ) → read_bytes true (force_of 18) bytes ≡ Some (c ∷ []) → (byte : ℕ) × (common_character byte ≡ Some c)
+common_read : (bytes : List ℕ) (c : ℕ) → read_bytes true (force_of 16) bytes ≡ Some (c ∷ []) → (byte : ℕ) × (common_character byte ≡ Some c)
 unfolding read_bytes force_of each_of
 common_read [] c h = absurd (cc)
 common_read (byte ∷ bytes) c h =
@@ -190,18 +190,18 @@ common_read (byte ∷ bytes) c h =
 one_byte : (byte other c : ℕ) → ascii_character byte ≡ Some c → common_character other ≡ Some c → common_character byte ≡ Some c
 one_byte byte other c h k = grind (arith, common_steps, h, k)
 
-char_alike : (c : ℕ) (f : Facts) → AreFacts c f → TakesNoMore 18 0 f.sizes → IsAlike c
+char_alike : (c : ℕ) (f : Facts) → AreFacts c f → TakesNoMore 16 0 f.sizes → IsAlike c
 char_alike c f known more byte h =
     let there = (known.sizes 0 (omega arith)).front false (λ e. refl, λ e. absurd (omega arith)) (byte ∷ []) [] (ascii_read byte c h) in
-    let w = (known.sizes 18 (omega arith)).some (more there.3).0 true (λ e. absurd (omega arith), λ e. refl) in
+    let w = (known.sizes 16 (omega arith)).some (more there.3).0 true (λ e. absurd (omega arith), λ e. refl) in
     let common = common_read w.0 c w.2 in one_byte byte common.0 c h common.1
 
-text_alike : (text : List ℕ) (all : List Facts) → AreAllFacts text all → All (λ facts. TakesNoMore 18 0 facts.sizes) all → AreAlike text
+text_alike : (text : List ℕ) (all : List Facts) → AreAllFacts text all → All (λ facts. TakesNoMore 16 0 facts.sizes) all → AreAlike text
 text_alike [] all known more = tt
 text_alike (c ∷ text) [] known more = absurd known
 text_alike (c ∷ text) (f ∷ all) known more = (
-  char_alike c f known.0 (All-head (λ (facts : Facts). TakesNoMore 18 0 facts.sizes) f all more),
-  text_alike text all known.1 (All-tail (λ (facts : Facts). TakesNoMore 18 0 facts.sizes) f all more),
+  char_alike c f known.0 (All-head (λ (facts : Facts). TakesNoMore 16 0 facts.sizes) f all more),
+  text_alike text all known.1 (All-tail (λ (facts : Facts). TakesNoMore 16 0 facts.sizes) f all more),
 )
 
 each_alike : (bytes text : List ℕ) → AreAlike text → each_of ascii_character bytes ≡ Some text → each_of common_character bytes ≡ Some text
@@ -268,14 +268,14 @@ module _ (version : Version) (bare unmixed mixed : Rules) (b : AreRules version 
   one_of parts text all known h = by_flags parts text all (has_no_designator parts) (has_kanji parts) known h.had refl refl h.read
 
 module _ (version : Version) (bare mixed : Rules) (b : AreRules version true true bare) (m : AreRules version false true mixed) where
-  without_kanji : (parts : List Part) (text : List ℕ) (all : List Facts) → AreAllFacts text all → All (λ facts. TakesNoMore 18 0 facts.sizes) all →
+  without_kanji : (parts : List Part) (text : List ℕ) (all : List Facts) → AreAllFacts text all → All (λ facts. TakesNoMore 16 0 facts.sizes) all →
       All (HasPart version) parts → has_kanji parts ≡ false → read_parts false false None parts ≡ Some text → least_of mixed all ≤ weight_of version parts
   without_kanji parts text all known alike had k h =
       bound version false true mixed m parts text all known had (suits_unmixed version false true mixed m parts mixed.start k refl had)
       (parts_alike None parts text (text_alike text all known alike) h)
 
   by_two_flags : (parts : List Part) (text : List ℕ) (all : List Facts) (plain kanji : Bool) → AreAllFacts text all →
-      All (λ facts. TakesNoMore 18 0 facts.sizes) all → All (HasPart version) parts → has_no_designator parts ≡ plain → has_kanji parts ≡ kanji →
+      All (λ facts. TakesNoMore 16 0 facts.sizes) all → All (HasPart version) parts → has_no_designator parts ≡ plain → has_kanji parts ≡ kanji →
       read_parts plain kanji None parts ≡ Some text → (least_of bare all ≤ weight_of version parts) ⊎ (least_of mixed all ≤ weight_of version parts)
   by_two_flags parts text all true true known alike had p k h =
       inl (bound version true true bare b parts text all known had (suits_plain version true true bare b parts p refl) h)
@@ -287,7 +287,7 @@ module _ (version : Version) (bare mixed : Rules) (b : AreRules version true tru
       (subst (λ (force : Option ℕ). read_parts false true force parts ≡ Some text) (sym m.lanes.no_force) h)) h)
 
   -- Where its ASCII characters are the same in JIS X 0201, one of two ways weighs no more than any parts.
-  pub one_of_two : (parts : List Part) (text : List ℕ) (all : List Facts) → AreAllFacts text all → All (λ facts. TakesNoMore 18 0 facts.sizes) all →
+  pub one_of_two : (parts : List Part) (text : List ℕ) (all : List Facts) → AreAllFacts text all → All (λ facts. TakesNoMore 16 0 facts.sizes) all →
       AreTextParts version text parts → (least_of bare all ≤ weight_of version parts) ⊎ (least_of mixed all ≤ weight_of version parts)
   one_of_two parts text all known alike h = by_two_flags parts text all (has_no_designator parts) (has_kanji parts) known alike h.had refl refl h.read
 

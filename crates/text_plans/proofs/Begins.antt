@@ -31,7 +31,7 @@ if_list false x cs h = absurd (let e : None ≡ Some cs = h in cc)
 some_size : (n : ℕ) → n ≢ 0 → not (n == 0) ≡ true
 some_size n h = grind (arith, common_steps)
 
-module _ (plain mixed : Bool) (rules : Rules) (lane : ℕ) (suits : SuitsMixed mixed lane) (inside : lane < 19) (facts : Facts) (c : ℕ) (known : AreFacts c facts) where
+module _ (plain mixed : Bool) (rules : Rules) (lane : ℕ) (suits : SuitsMixed mixed lane) (inside : lane < 17) (facts : Facts) (c : ℕ) (known : AreFacts c facts) where
   pub begins : (mode : Mode) (bytes cs : List ℕ) → (mode ≡ Kanji → rules.kanji_lane ≡ lane) →
       read_segment plain mixed (force_of lane) mode bytes ≡ Some (c ∷ cs) → Begins plain mixed rules lane mode facts bytes cs
   unfolding read_segment

@@ -35,11 +35,13 @@ Suits rules lane (segment mode bytes ∷ parts) = (mode ≡ Kanji → rules.kanj
 -- The lane of a designator.
 lane_of : ℕ → ℕ
 lane_of number =
-    if is_between 3 13 number then number - 2
-    else (if is_between 15 18 number then number - 3
-    else (if number == 20 then 16 else 17))
+    if is_between 3 11 number then number - 2
+    else (if number == 13 then 10
+    else (if number == 15 then 11
+    else (if is_between 17 18 number then number - 5
+    else (if number == 20 then 14 else 15))))
 
-pub lane_known : (number : ℕ) → is_known number ≡ true → (lane : ℕ) × (1 ≤ lane) × (lane ≤ 17) × (force_of lane ≡ Some number)
+pub lane_known : (number : ℕ) → is_known number ≡ true → (lane : ℕ) × (1 ≤ lane) × (lane ≤ 15) × (force_of lane ≡ Some number)
 unfolding lane_of force_of
 lane_known number h = (lane_of number, grind (arith, common_steps), grind (arith, common_steps), grind (arith, common_steps))
 
@@ -71,11 +73,11 @@ first_bits facts lane Byte = refl
 first_bits facts lane Kanji = refl
 
 -- The lanes of designators are in all symbols.
-inner : (mixed : Bool) (lane : ℕ) → 1 ≤ lane → lane ≤ 17 → SuitsMixed mixed lane
+inner : (mixed : Bool) (lane : ℕ) → 1 ≤ lane → lane ≤ 15 → SuitsMixed mixed lane
 inner mixed lane low high = (λ e. absurd (omega arith), λ e. absurd (omega arith))
 
 module _ (plain mixed : Bool) (rules : Rules) where
-  changed : (lane to : ℕ) (version : Version) (number : ℕ) (parts : List Part) (all : List Facts) → lane < 19 → 1 ≤ to → to ≤ 17 →
+  changed : (lane to : ℕ) (version : Version) (number : ℕ) (parts : List Part) (all : List Facts) → lane < 17 → 1 ≤ to → to ≤ 15 →
       rules.designator ≡ BIT * 12 + 1 → (entry rules all to).fresh ≤ weight_of version parts →
       (entry rules all lane).fresh ≤ weight_of version (designator number ∷ parts)
   changed lane to version number parts [] inside low high is h = rw (entry_end rules lane inside) (omega arith)
@@ -85,7 +87,7 @@ module _ (plain mixed : Bool) (rules : Rules) where
   -- ---- Segments
 
   -- What goes on with a segment weighs no less.
-  open_bound : (lane : ℕ) → SuitsMixed mixed lane → lane < 19 → (mode : Mode) → (mode ≡ Kanji → rules.kanji_lane ≡ lane) →
+  open_bound : (lane : ℕ) → SuitsMixed mixed lane → lane < 17 → (mode : Mode) → (mode ≡ Kanji → rules.kanji_lane ≡ lane) →
       (later : List ℕ) (weight : ℕ) →
       ((all : List Facts) → AreAllFacts later all → (entry rules all lane).fresh ≤ weight) →
       (front : List ℕ) (all : List Facts) (bytes : List ℕ) (count : ℕ) → AreAllFacts (front ++ later) all →
@@ -108,7 +110,7 @@ module _ (plain mixed : Bool) (rules : Rules) where
         bits_rise mode (count + char_size facts lane mode + length b.rest) (count + length bytes) (omega (arith, b.size)),
       )
 
-  segment_bound : (version : Version) → HasHeaders version rules → (lane : ℕ) → SuitsMixed mixed lane → lane < 19 →
+  segment_bound : (version : Version) → HasHeaders version rules → (lane : ℕ) → SuitsMixed mixed lane → lane < 17 →
       (mode : Mode) → (mode ≡ Kanji → rules.kanji_lane ≡ lane) → (later : List ℕ) (weight : ℕ) →
       ((all : List Facts) → AreAllFacts later all → (entry rules all lane).fresh ≤ weight) →
       (front : List ℕ) (all : List Facts) (bytes : List ℕ) → HasPart version (segment mode bytes) → AreAllFacts (front ++ later) all →
@@ -136,7 +138,7 @@ module _ (plain mixed : Bool) (rules : Rules) where
   -- ---- All parts
 
   pub parts_bound : (version : Version) → HasHeaders version rules → (parts : List Part) (lane : ℕ) (text : List ℕ) (all : List Facts) →
-      SuitsMixed mixed lane → lane < 19 → AreAllFacts text all → All (HasPart version) parts → Suits rules lane parts →
+      SuitsMixed mixed lane → lane < 17 → AreAllFacts text all → All (HasPart version) parts → Suits rules lane parts →
       read_parts plain mixed (force_of lane) parts ≡ Some text → (entry rules all lane).fresh ≤ weight_of version parts
   unfolding read_parts
   parts_bound version headers [] lane text [] suits inside known had may h = rw (entry_end rules lane inside) (omega arith)
@@ -146,7 +148,7 @@ module _ (plain mixed : Bool) (rules : Rules) where
   parts_bound version headers (designator number ∷ parts) lane text all suits inside known had may h =
       let p = if_parts (is_known number) (read_parts plain mixed (Some number) parts) text h in
       let to = lane_known number p.0 in
-      let within : to.0 < 19 = omega (arith, to.2) in
+      let within : to.0 < 17 = omega (arith, to.2) in
       let read = subst (λ (force : Option ℕ). read_parts plain mixed force parts ≡ Some text) (sym to.3) p.1 in
       let later = parts_bound version headers parts to.0 text all (inner mixed to.0 to.1 to.2) within known
       (All-tail (HasPart version) (designator number) parts had) (may.1 to.0 to.3) read in

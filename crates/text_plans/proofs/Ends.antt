@@ -18,10 +18,10 @@ whole_row rules all row is = (
 
 -- A character more.
 pub kept_more : (rules : Rules) (all : List Facts) (n k : ℕ) (d : Facts) (row next : List Rest) → n ≡ length all → k < n → KeepsEnough rules all →
-    IsRowOf rules (drop (n - k) all) row → length next ≡ 19 →
-    ((lane : ℕ) → lane < 19 → IsKeptLane rules.kept lane →
+    IsRowOf rules (drop (n - k) all) row → length next ≡ 17 →
+    ((lane : ℕ) → lane < 17 → IsKeptLane rules.kept lane →
     get_or next lane no_rest
-    ≡ lane_before rules (get_or all (n - 1 - k) d) (switch_kept rules (get_or all (n - 1 - k) d) row 17) lane (get_or row lane no_rest)) →
+    ≡ lane_before rules (get_or all (n - 1 - k) d) (switch_kept rules (get_or all (n - 1 - k) d) row 15) lane (get_or row lane no_rest)) →
     IsRowOf rules (drop (n - (k + 1)) all) next
 kept_more rules all n k d row next long inside enough is size made =
     let more = from_end all n k d long inside in

@@ -21,12 +21,12 @@ use Rattle.text_plans.proofs.Weights.{onward_is}
 -- The lanes that are kept, up to one, are as they are to be, and the others are as they were.
 abbrev AreUpTo : (ℕ → Rest) → List Bool → List Rest → List Rest → ℕ → Type 0
 AreUpTo made kept old row lane =
-    (length row ≡ 19)
+    (length row ≡ 17)
     × ((k : ℕ) → k < lane → IsKeptLane kept k → get_or row k no_rest ≡ made k)
     × ((k : ℕ) → lane ≤ k → get_or row k no_rest ≡ get_or old k no_rest)
 
 pub lane_written : (made : ℕ → Rest) (kept : List Bool) (old row next : List Rest) (lane : ℕ) (x : Rest) →
-    length row ≡ 19 → lane < 19 → ((k : ℕ) → k < lane → IsKeptLane kept k → get_or row k no_rest ≡ made k) →
+    length row ≡ 17 → lane < 17 → ((k : ℕ) → k < lane → IsKeptLane kept k → get_or row k no_rest ≡ made k) →
     ((k : ℕ) → lane ≤ k → get_or row k no_rest ≡ get_or old k no_rest) → x ≡ made lane → next ≡ set row lane x →
     AreUpTo made kept old next (lane + 1)
 lane_written made kept old row next lane x long inside done left is e =
@@ -38,7 +38,7 @@ lane_written made kept old row next lane x long inside done left is e =
     )
 
 pub lane_left : (made : ℕ → Rest) (kept : List Bool) (old row next : List Rest) (lane : ℕ) →
-    length row ≡ 19 → ((k : ℕ) → k < lane → IsKeptLane kept k → get_or row k no_rest ≡ made k) →
+    length row ≡ 17 → ((k : ℕ) → k < lane → IsKeptLane kept k → get_or row k no_rest ≡ made k) →
     ((k : ℕ) → lane ≤ k → get_or row k no_rest ≡ get_or old k no_rest) → get_or kept lane false ≡ false → next ≡ row →
     AreUpTo made kept old next (lane + 1)
 lane_left made kept old row next lane long done left skipped e =
@@ -60,7 +60,7 @@ domination kanji_lane a b c all h k = record {
       let next = h.sizes n d inside first.0 in (next.0, omega (arith, first.1, next.1));
 }
 
-pub itself : (kanji_lane lane : ℕ) (all : List Facts) → 1 ≤ lane → lane ≤ 17 → Dominates kanji_lane lane lane all
+pub itself : (kanji_lane lane : ℕ) (all : List Facts) → 1 ≤ lane → lane ≤ 15 → Dominates kanji_lane lane lane all
 itself kanji_lane lane all low high = record {
   from = low;
   last = high;
@@ -119,13 +119,13 @@ module _ (rules : Rules) (to lane : ℕ) where
         begin_order f Kanji x y kanji sizes (h Kanji),
       )
 
-  pub onward_order : (all : List Facts) → to < 19 → lane < 19 → Dominates rules.kanji_lane to lane all → (mode : Mode) (count : ℕ) →
+  pub onward_order : (all : List Facts) → to < 17 → lane < 17 → Dominates rules.kanji_lane to lane all → (mode : Mode) (count : ℕ) →
       onward (entry rules all to) mode count ≤ onward (entry rules all lane) mode count
   onward_order [] low high h mode count = rw (entry_end rules to low) (rw (entry_end rules lane high) (omega arith))
   onward_order (f ∷ all) low high h mode count =
       let below = onward_order all low high (later rules.kanji_lane to lane f all h) in
       let sizes = All-head (λ (facts : Facts). TakesNoMore to lane facts.sizes) f all h.sizes in
-      let switched = switch_least rules f (rests_of rules all) 17 in
+      let switched = switch_least rules f (rests_of rules all) 15 in
       rw (entry_step rules f all to low) (rw (entry_step rules f all lane high)
       (omega (
         arith,
@@ -170,13 +170,13 @@ module _ (rules : Rules) (f : Facts) (all : List Facts) where
     kept_small zero = omega arith
     kept_small (suc count) = let first = kept_small count in grind (arith, common_steps, first)
 
-    kept_at : (count : ℕ) → suc count < 19 → IsKeptLane rules.kept (suc count) → switch_kept rules f row (suc count) ≤ after (suc count)
+    kept_at : (count : ℕ) → suc count < 17 → IsKeptLane rules.kept (suc count) → switch_kept rules f row (suc count) ≤ after (suc count)
     unfolding switch_kept after
     kept_at count inside keeps =
         let same = ap (λ (r : Rest). begin_least rules f (suc count) r) (is.1 (suc count) inside keeps) in
         if_at (get_or rules.kept (suc count) false) (switch_kept rules f row count) _ _ keeps (omega (arith, same))
 
-    kept_below : (count lane : ℕ) → count < 19 → 1 ≤ lane → lane ≤ count → IsKeptLane rules.kept lane → switch_kept rules f row count ≤ after lane
+    kept_below : (count lane : ℕ) → count < 17 → 1 ≤ lane → lane ≤ count → IsKeptLane rules.kept lane → switch_kept rules f row count ≤ after lane
     unfolding switch_kept
     kept_below zero lane inside low high keeps = absurd (omega arith)
     kept_below (suc count) lane inside low high keeps =
@@ -187,7 +187,7 @@ module _ (rules : Rules) (f : Facts) (all : List Facts) where
               subst (λ (n : ℕ). IsKeptLane rules.kept n → switch_kept rules f row (suc count) ≤ after n) e (kept_at count inside) keeps
         ]
 
-    kept_above : (count : ℕ) → count < 19 → switch_least rules f (rests_of rules all) count ≤ switch_kept rules f row count
+    kept_above : (count : ℕ) → count < 17 → switch_least rules f (rests_of rules all) count ≤ switch_kept rules f row count
     unfolding switch_kept switch_least
     kept_above zero inside = omega arith
     kept_above (suc count) inside =
@@ -195,11 +195,11 @@ module _ (rules : Rules) (f : Facts) (all : List Facts) where
         (kept_above count (omega arith))
         (λ keeps. sym (ap (λ (r : Rest). weight_if true (rules.designator + begin_least rules f (suc count) r)) (is.1 (suc count) inside keeps)))
 
-    after_order : (to lane : ℕ) → lane ≤ 17 → Dominates rules.kanji_lane to lane (f ∷ all) → after to ≤ after lane
+    after_order : (to lane : ℕ) → lane ≤ 15 → Dominates rules.kanji_lane to lane (f ∷ all) → after to ≤ after lane
     unfolding after
     after_order to lane high h =
         let sizes = All-head (λ (facts : Facts). TakesNoMore to lane facts.sizes) f all h.sizes in
-        let low : to < 19 = omega (arith, h.last) in
+        let low : to < 17 = omega (arith, h.last) in
         let begin = least_order rules to lane f (entry rules all to) (entry rules all lane) h.kanji sizes
         (λ mode. onward_order rules to lane all low (omega arith) (later rules.kanji_lane to lane f all h) mode 1) in
         omega (arith, begin)
@@ -208,33 +208,33 @@ module _ (rules : Rules) (f : Facts) (all : List Facts) where
     unfolding after
     no_designator lane h = omega (arith, h)
 
-    pub kept_is : KeepsEnough rules (f ∷ all) → switch_kept rules f row 17 ≡ switch_least rules f (rests_of rules all) 17
+    pub kept_is : KeepsEnough rules (f ∷ all) → switch_kept rules f row 15 ≡ switch_least rules f (rests_of rules all) 15
     kept_is enough =
         elim enough.1 [
           | inl none ↦
-              let least = least_above LIMIT 17 (omega arith) (λ lane low high. no_designator lane none) in
-              omega (arith, kept_small 17, kept_above 17 (omega arith), least)
+              let least = least_above LIMIT 15 (omega arith) (λ lane low high. no_designator lane none) in
+              omega (arith, kept_small 15, kept_above 15 (omega arith), least)
           | inr lanes ↦
-              let least = least_above (switch_kept rules f row 17) 17 (kept_small 17) (λ lane low high.
+              let least = least_above (switch_kept rules f row 15) 15 (kept_small 15) (λ lane low high.
               let w = lanes lane low high in
-              let below = kept_below 17 w.0 (omega arith) w.2.from w.2.last w.1 in
+              let below = kept_below 15 w.0 (omega arith) w.2.from w.2.last w.1 in
               omega (arith, below, after_order w.0 lane high w.2)) in
-              omega (arith, kept_above 17 (omega arith), least)
+              omega (arith, kept_above 15 (omega arith), least)
         ]
 
 -- ---- Rows
 
 pub row_kept : (rules : Rules) (f : Facts) (all : List Facts) (old row : List Rest) → KeepsEnough rules (f ∷ all) → IsRowOf rules all old →
-    length row ≡ 19 →
-    ((lane : ℕ) → lane < 19 → IsKeptLane rules.kept lane →
-    get_or row lane no_rest ≡ lane_before rules f (switch_kept rules f old 17) lane (get_or old lane no_rest)) →
+    length row ≡ 17 →
+    ((lane : ℕ) → lane < 17 → IsKeptLane rules.kept lane →
+    get_or row lane no_rest ≡ lane_before rules f (switch_kept rules f old 15) lane (get_or old lane no_rest)) →
     IsRowOf rules (f ∷ all) row
 row_kept rules f all old row enough is long made = (
   long,
   λ lane inside keeps.
       made lane inside keeps
       ∙ ap (λ (switched : ℕ). lane_before rules f switched lane (get_or old lane no_rest)) (kept_is rules f all old is enough)
-      ∙ ap (λ (rest : Rest). lane_before rules f (switch_least rules f (rests_of rules all) 17) lane rest) (is.1 lane inside keeps)
+      ∙ ap (λ (rest : Rest). lane_before rules f (switch_least rules f (rests_of rules all) 15) lane rest) (is.1 lane inside keeps)
       ∙ sym (entry_step rules f all lane inside),
 )
 
@@ -265,21 +265,21 @@ set_other : (kept : List Bool) (lane to : ℕ) (b : Bool) → to ≢ lane → Is
 set_other kept lane to b differs keeps = grind (arith, common_steps, differs, keeps)
 
 -- A lane is left out that another dominates.
-pub left_out : (kept : List Bool) (lane to : ℕ) (all : List Facts) → to ≢ lane → IsKeptLane kept to → Dominates 19 to lane all → AreEnough kept 19 all →
-    AreEnough (set kept lane false) 19 all
+pub left_out : (kept : List Bool) (lane to : ℕ) (all : List Facts) → to ≢ lane → IsKeptLane kept to → Dominates 17 to lane all → AreEnough kept 17 all →
+    AreEnough (set kept lane false) 17 all
 left_out kept lane to all differs keeps h enough k low high =
     let w = enough k low high in
     elim (cases_eq w.0 lane) [
       | inl same ↦ (
         to,
         set_other kept lane to false differs keeps,
-        domination 19 to lane k all h (subst (λ (n : ℕ). Dominates 19 n k all) same w.2),
+        domination 17 to lane k all h (subst (λ (n : ℕ). Dominates 17 n k all) same w.2),
       )
       | inr other ↦ (w.0, set_other kept lane w.0 false other w.1, w.2)
     ]
 
 -- What is enough for some characters is so for all that these cover.
-pub enough_covered : (kept : List Bool) (some all : List Facts) → StandFor some all → AreEnough kept 19 some → AreEnough kept 19 all
+pub enough_covered : (kept : List Bool) (some all : List Facts) → StandFor some all → AreEnough kept 17 some → AreEnough kept 17 all
 enough_covered kept some all covers enough lane low high =
     let w = enough lane low high in (
       w.0,
@@ -293,8 +293,8 @@ enough_covered kept some all covers enough lane low high =
     )
 
 -- Where Kanji segments are, a lane of theirs is kept too.
-pub with_kanji : (kept more : List Bool) (kanji_lane : ℕ) (all : List Facts) → AreEnough kept 19 all →
-    ((lane : ℕ) → lane < 19 → IsKeptLane kept lane → IsKeptLane more lane) → (kanji_lane < 19 → IsKeptLane more kanji_lane) → AreEnough more kanji_lane all
+pub with_kanji : (kept more : List Bool) (kanji_lane : ℕ) (all : List Facts) → AreEnough kept 17 all →
+    ((lane : ℕ) → lane < 17 → IsKeptLane kept lane → IsKeptLane more lane) → (kanji_lane < 17 → IsKeptLane more kanji_lane) → AreEnough more kanji_lane all
 with_kanji kept more kanji_lane all enough keeps kanji lane low high =
     elim (cases_eq kanji_lane lane) [
       | inl same ↦ (lane, subst (λ (n : ℕ). IsKeptLane more n) same (kanji (omega (arith, same))), itself kanji_lane lane all low high)
@@ -312,14 +312,14 @@ with_kanji kept more kanji_lane all enough keeps kanji lane low high =
     ]
 
 -- UTF-8 dominates the lanes in which it has no more bytes.
-pub all_kept : (used : List Bool) (all : List Facts) → length used ≡ 19 →
-    ((lane : ℕ) → lane < 19 → get_or used lane false ≡ false → All (λ facts. TakesNoMore 17 lane facts.sizes) all) →
-    AreEnough (set (set (set used 0 false) 18 false) 17 true) 19 all
+pub all_kept : (used : List Bool) (all : List Facts) → length used ≡ 17 →
+    ((lane : ℕ) → lane < 17 → get_or used lane false ≡ false → All (λ facts. TakesNoMore 15 lane facts.sizes) all) →
+    AreEnough (set (set (set used 0 false) 16 false) 15 true) 17 all
 all_kept used all long free lane low high =
     elim (cases_Bool (get_or used lane false)) [
-      | inl is ↦ (lane, stays lane low high is, itself 19 lane all low high)
+      | inl is ↦ (lane, stays lane low high is, itself 17 lane all low high)
       | inr differs ↦ (
-        17,
+        15,
         utf8,
         record {
           from = omega arith;
@@ -330,15 +330,15 @@ all_kept used all long free lane low high =
       )
     ]
   where
-    utf8 : IsKeptLane (set (set (set used 0 false) 18 false) 17 true) 17
+    utf8 : IsKeptLane (set (set (set used 0 false) 16 false) 15 true) 15
     utf8 = grind (arith, common_steps, long)
 
-    stays : (lane : ℕ) → 1 ≤ lane → lane ≤ 17 → get_or used lane false ≡ true → IsKeptLane (set (set (set used 0 false) 18 false) 17 true) lane
+    stays : (lane : ℕ) → 1 ≤ lane → lane ≤ 15 → get_or used lane false ≡ true → IsKeptLane (set (set (set used 0 false) 16 false) 15 true) lane
     stays lane low high is =
-        elim (cases_eq lane 17) [
-          | inl e ↦ subst (λ (n : ℕ). IsKeptLane (set (set (set used 0 false) 18 false) 17 true) n) (sym e) utf8
+        elim (cases_eq lane 15) [
+          | inl e ↦ subst (λ (n : ℕ). IsKeptLane (set (set (set used 0 false) 16 false) 15 true) n) (sym e) utf8
           | inr differs ↦
-              set_other (set (set used 0 false) 18 false) 17 lane true differs
-              (set_other (set used 0 false) 18 lane false (λ e. absurd (omega (arith, e, high)))
+              set_other (set (set used 0 false) 16 false) 15 lane true differs
+              (set_other (set used 0 false) 16 lane false (λ e. absurd (omega (arith, e, high)))
               (set_other used 0 lane false (λ e. absurd (omega (arith, e, low))) is))
         ]

@@ -7,8 +7,8 @@ use Rattle.text_reading.specs.Bytes.{IsPartByte, character_of_byte, is_part, par
 use Rattle.text_plans.specs.Lanes.{IsSize, column_of, force_of, single_character}
 use Rattle.text_plans.proofs.Sizes.{is_other, no_size, one_size, single_lane}
 
--- The lanes 1 to 15 are those of the parts, in the order of their designators.
-part_at : (part : ℕ) → part < 15 → (force_of (part + 1) ≡ Some (column_of part + 3)) × (is_part (column_of part + 3) ≡ true)
+-- The lanes 1 to 13 are those of the parts, in the order of their designators.
+part_at : (part : ℕ) → part < 13 → (force_of (part + 1) ≡ Some (column_of part + 3)) × (is_part (column_of part + 3) ≡ true)
 unfolding force_of
 part_at part inside = (grind (arith, common_steps, inside), grind (arith, common_steps, inside))
 
@@ -16,15 +16,15 @@ by_part : (designator byte : ℕ) → is_part designator ≡ true → character_
 unfolding character_of_byte
 by_part designator byte h = cond-true (is_part designator) (part_character designator byte) _ h
 
-single_part : (part byte : ℕ) → part < 15 → single_character (part + 1) byte ≡ part_character (column_of part + 3) byte
+single_part : (part byte : ℕ) → part < 13 → single_character (part + 1) byte ≡ part_character (column_of part + 3) byte
 single_part part byte inside =
     let at = part_at part inside in
-    let other : (part + 1 == 18) ≡ false = ne_eqb (part + 1) 18 (λ e. absurd (omega (arith, e))) in
+    let other : (part + 1 == 16) ≡ false = ne_eqb (part + 1) 16 (λ e. absurd (omega (arith, e))) in
     ap (λ (f : ℕ → Option ℕ). f byte) (is_other (part + 1) other)
     ∙ ap (λ (force : Option ℕ). character_of_byte force byte) at.0
     ∙ by_part (column_of part + 3) byte at.1
 
-pub part_size : (part c byte : ℕ) → part < 15 → IsPartByte (column_of part + 3) c byte → IsSize (part + 1) c (min byte 1)
+pub part_size : (part c byte : ℕ) → part < 13 → IsPartByte (column_of part + 3) c byte → IsSize (part + 1) c (min byte 1)
 part_size part c zero inside h =
     no_size (part + 1) (single_character (part + 1)) c (single_lane (part + 1) (omega arith) (λ e. absurd (omega (arith, e))) (λ e. absurd (omega (arith, e))))
     (λ byte is. let w = h.found byte (sym (single_part part byte inside) ∙ is) in w.1 (sym w.0))
@@ -40,7 +40,7 @@ no_first : (byte c : ℕ) → 128 ≤ c → single_character 0 byte ≡ Some c �
 unfolding single_character force_of character_of_byte
 no_first byte c beyond h = absurd (grind (arith, common_steps, beyond, h))
 
-no_last : (byte c : ℕ) → 128 ≤ c → single_character 18 byte ≡ Some c → ⊥
+no_last : (byte c : ℕ) → 128 ≤ c → single_character 16 byte ≡ Some c → ⊥
 unfolding single_character
 no_last byte c beyond h = absurd (grind (arith, common_steps, beyond, h))
 
@@ -49,7 +49,7 @@ first_size c beyond =
     no_size 0 (single_character 0) c (single_lane 0 (omega arith) (λ e. absurd (omega (arith, e))) (λ e. absurd (omega (arith, e))))
     (λ byte h. no_first byte c beyond h)
 
-pub last_size : (c : ℕ) → 128 ≤ c → IsSize 18 c 0
+pub last_size : (c : ℕ) → 128 ≤ c → IsSize 16 c 0
 last_size c beyond =
-    no_size 18 (single_character 18) c (single_lane 18 (omega arith) (λ e. absurd (omega (arith, e))) (λ e. absurd (omega (arith, e))))
+    no_size 16 (single_character 16) c (single_lane 16 (omega arith) (λ e. absurd (omega (arith, e))) (λ e. absurd (omega (arith, e))))
     (λ byte h. no_last byte c beyond h)

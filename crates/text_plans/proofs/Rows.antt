@@ -18,18 +18,18 @@ use Rattle.text_plans.proofs.Weights.{onward_is}
 abbrev pub entry : Rules → List Facts → ℕ → Rest
 entry rules all lane = get_or (rests_of rules all) lane no_rest
 
-pub entry_end : (rules : Rules) (lane : ℕ) → lane < 19 → entry rules [] lane ≡ no_rest
+pub entry_end : (rules : Rules) (lane : ℕ) → lane < 17 → entry rules [] lane ≡ no_rest
 unfolding rests_of
-entry_end rules lane h = get_or-map-range_with_len (λ (k : ℕ). no_rest) 0 19 lane lane no_rest h (omega arith)
+entry_end rules lane h = get_or-map-range_with_len (λ (k : ℕ). no_rest) 0 17 lane lane no_rest h (omega arith)
 
-pub entry_step : (rules : Rules) (facts : Facts) (all : List Facts) (lane : ℕ) → lane < 19 →
+pub entry_step : (rules : Rules) (facts : Facts) (all : List Facts) (lane : ℕ) → lane < 17 →
     entry rules (facts ∷ all) lane
-    ≡ lane_before rules facts (switch_least rules facts (rests_of rules all) 17) lane (entry rules all lane)
+    ≡ lane_before rules facts (switch_least rules facts (rests_of rules all) 15) lane (entry rules all lane)
 unfolding rests_of row_before
 entry_step rules facts all lane h =
     get_or-map-range_with_len
-    (λ (k : ℕ). lane_before rules facts (switch_least rules facts (rests_of rules all) 17) k (get_or (rests_of rules all) k no_rest))
-    0 19 lane lane no_rest h (omega arith)
+    (λ (k : ℕ). lane_before rules facts (switch_least rules facts (rests_of rules all) 15) k (get_or (rests_of rules all) k no_rest))
+    0 17 lane lane no_rest h (omega arith)
 
 -- ---- A weight up to the limit
 
@@ -53,13 +53,13 @@ begin_below rules facts lane rest Byte = omega arith
 begin_below rules facts lane rest Kanji = omega arith
 
 -- A segment that begins weighs no less.
-pub fresh_begin : (rules : Rules) (facts : Facts) (all : List Facts) (lane : ℕ) (mode : Mode) → lane < 19 →
+pub fresh_begin : (rules : Rules) (facts : Facts) (all : List Facts) (lane : ℕ) (mode : Mode) → lane < 17 →
     (entry rules (facts ∷ all) lane).fresh ≤ begin_in rules facts lane (entry rules all lane) mode
 fresh_begin rules facts all lane mode h =
     rw (entry_step rules facts all lane h)
     (omega (
       arith,
-      fresh_is rules facts (switch_least rules facts (rests_of rules all) 17) lane (entry rules all lane),
+      fresh_is rules facts (switch_least rules facts (rests_of rules all) 15) lane (entry rules all lane),
       begin_below rules facts lane (entry rules all lane) mode,
     ))
 
@@ -70,17 +70,17 @@ switch_below rules facts row zero lane h k = absurd (omega arith)
 switch_below rules facts row (suc count) lane h k = grind (arith, switch_below rules facts row count lane h)
 
 -- So does a designator with what follows it.
-pub fresh_switch : (rules : Rules) (facts : Facts) (all : List Facts) (lane to : ℕ) → lane < 19 → 1 ≤ to → to ≤ 17 →
+pub fresh_switch : (rules : Rules) (facts : Facts) (all : List Facts) (lane to : ℕ) → lane < 17 → 1 ≤ to → to ≤ 15 →
     (entry rules (facts ∷ all) lane).fresh ≤ rules.designator + (entry rules (facts ∷ all) to).fresh
 fresh_switch rules facts all lane to h low high =
-    let within : to < 19 = omega arith in
+    let within : to < 17 = omega arith in
     rw (entry_step rules facts all lane h)
     (rw (entry_step rules facts all to within)
     (omega (
       arith,
-      fresh_is rules facts (switch_least rules facts (rests_of rules all) 17) lane (entry rules all lane),
-      fresh_is rules facts (switch_least rules facts (rests_of rules all) 17) to (entry rules all to),
-      switch_below rules facts (rests_of rules all) 17 to low high,
+      fresh_is rules facts (switch_least rules facts (rests_of rules all) 15) lane (entry rules all lane),
+      fresh_is rules facts (switch_least rules facts (rests_of rules all) 15) to (entry rules all to),
+      switch_below rules facts (rests_of rules all) 15 to low high,
     )))
 
 -- Without designators none is the least.
@@ -98,20 +98,20 @@ from_end all n k d long inside =
     rw place (drop-cons all (n - 1 - k) d within ∙ ap (λ (m : ℕ). get_or all (n - 1 - k) d ∷ drop m all) next)
 
 -- Without designators each lane goes by what it has itself.
-pub lane_alone : (rules : Rules) (all : List Facts) (n k : ℕ) (d : Facts) (lane : ℕ) (rest : Rest) → n ≡ length all → k < n → lane < 19 → LIMIT ≤ rules.designator →
+pub lane_alone : (rules : Rules) (all : List Facts) (n k : ℕ) (d : Facts) (lane : ℕ) (rest : Rest) → n ≡ length all → k < n → lane < 17 → LIMIT ≤ rules.designator →
     rest ≡ entry rules (drop (n - k) all) lane →
     lane_before rules (get_or all (n - 1 - k) d) LIMIT lane rest ≡ entry rules (drop (n - (k + 1)) all) lane
 lane_alone rules all n k d lane rest long inside within none is =
     let f = get_or all (n - 1 - k) d in
     ap (λ (r : Rest). lane_before rules f LIMIT lane r) is
     ∙ ap (λ (switched : ℕ). lane_before rules f switched lane (entry rules (drop (n - k) all) lane))
-    (sym (switch_none rules f (rests_of rules (drop (n - k) all)) 17 none))
+    (sym (switch_none rules f (rests_of rules (drop (n - k) all)) 15 none))
     ∙ sym (entry_step rules f (drop (n - k) all) lane within)
     ∙ ap (λ (x : List Facts). entry rules x lane) (sym (from_end all n k d long inside))
 
 -- ---- An open segment
 
-pub onward_fresh : (rules : Rules) (all : List Facts) (lane : ℕ) (mode : Mode) (count : ℕ) → lane < 19 →
+pub onward_fresh : (rules : Rules) (all : List Facts) (lane : ℕ) (mode : Mode) (count : ℕ) → lane < 17 →
     onward (entry rules all lane) mode count ≤ (entry rules all lane).fresh
 onward_fresh rules [] lane Numeric count h = rw (entry_end rules lane h) (grind (arith, common_steps))
 onward_fresh rules [] lane Alphanumeric count h = rw (entry_end rules lane h) (grind (arith, common_steps))
@@ -119,23 +119,23 @@ onward_fresh rules [] lane Byte count h = rw (entry_end rules lane h) (omega ari
 onward_fresh rules [] lane Kanji count h = rw (entry_end rules lane h) (omega arith)
 onward_fresh rules (facts ∷ all) lane mode count h =
     rw (entry_step rules facts all lane h)
-    (omega (arith, onward_is rules facts lane (switch_least rules facts (rests_of rules all) 17) (entry rules all lane) mode count))
+    (omega (arith, onward_is rules facts lane (switch_least rules facts (rests_of rules all) 15) (entry rules all lane) mode count))
 
-pub onward_go : (rules : Rules) (facts : Facts) (all : List Facts) (lane : ℕ) (mode : Mode) (count : ℕ) → lane < 19 →
+pub onward_go : (rules : Rules) (facts : Facts) (all : List Facts) (lane : ℕ) (mode : Mode) (count : ℕ) → lane < 17 →
     onward (entry rules (facts ∷ all) lane) mode count ≤ go_on rules facts lane (entry rules all lane) mode count
 onward_go rules facts all lane mode count h =
     rw (entry_step rules facts all lane h)
-    (omega (arith, onward_is rules facts lane (switch_least rules facts (rests_of rules all) 17) (entry rules all lane) mode count))
+    (omega (arith, onward_is rules facts lane (switch_least rules facts (rests_of rules all) 15) (entry rules all lane) mode count))
 
 -- ---- A table, from the end of a text on
 
-pub row_length : (rules : Rules) (all : List Facts) → length (rests_of rules all) ≡ 19
+pub row_length : (rules : Rules) (all : List Facts) → length (rests_of rules all) ≡ 17
 unfolding rests_of row_before
 row_length rules [] = refl
 row_length rules (facts ∷ all) = refl
 
 pub row_first : (rules : Rules) (all : List Facts) (n : ℕ) → n ≡ length all →
-    map (λ (lane : ℕ). no_rest) (range_with_len 0 19) ≡ rests_of rules (drop (n - 0) all)
+    map (λ (lane : ℕ). no_rest) (range_with_len 0 17) ≡ rests_of rules (drop (n - 0) all)
 unfolding rests_of
 row_first rules all n long =
     let e : drop (n - 0) all ≡ [] = grind (arith, common_steps) in rw e refl

@@ -92,7 +92,7 @@ shift_jis_front (byte ∷ next ∷ bytes) c cs h =
           inr (record { byte = byte; rest = next ∷ bytes; bytes_are = refl; single = p.0; read = p.1 })
     ]
 
-by_shift_jis : (mixed : Bool) (bytes : List ℕ) → read_bytes mixed (force_of 16) bytes ≡ read_shift_jis bytes
+by_shift_jis : (mixed : Bool) (bytes : List ℕ) → read_bytes mixed (force_of 14) bytes ≡ read_shift_jis bytes
 unfolding read_bytes force_of
 by_shift_jis mixed bytes = refl
 
@@ -109,14 +109,14 @@ pair_read lead trail c h =
     cond-true (is_lead lead) (put (pair_character lead trail) (Some [])) _ (pair_leads lead trail c h)
     ∙ ap (λ (x : Option ℕ). put x (Some [])) h
 
-pub kana_reads : (c byte : ℕ) → shift_jis_character byte ≡ Some c → (mixed : Bool) → read_bytes mixed (force_of 16) (byte ∷ []) ≡ Some (c ∷ [])
+pub kana_reads : (c byte : ℕ) → shift_jis_character byte ≡ Some c → (mixed : Bool) → read_bytes mixed (force_of 14) (byte ∷ []) ≡ Some (c ∷ [])
 kana_reads c byte h mixed = by_shift_jis mixed (byte ∷ []) ∙ kana_read byte c h
 
 pub pair_reads : (c lead trail : ℕ) → pair_character lead trail ≡ Some c → (mixed : Bool) →
-    read_bytes mixed (force_of 16) (lead ∷ trail ∷ []) ≡ Some (c ∷ [])
+    read_bytes mixed (force_of 14) (lead ∷ trail ∷ []) ≡ Some (c ∷ [])
 pair_reads c lead trail h mixed = by_shift_jis mixed (lead ∷ trail ∷ []) ∙ pair_read lead trail c h
 
-pub kana_size : (c byte : ℕ) → shift_jis_character byte ≡ Some c → IsSize 16 c 1
+pub kana_size : (c byte : ℕ) → shift_jis_character byte ≡ Some c → IsSize 14 c 1
 kana_size c byte h = record {
   some = λ e mixed suits. (byte ∷ [], refl, kana_reads c byte h mixed);
   front = λ mixed suits bytes cs read.
@@ -126,7 +126,7 @@ kana_size c byte h = record {
       ];
 }
 
-pub pair_size : (c lead trail : ℕ) → ((byte : ℕ) → shift_jis_character byte ≡ Some c → ⊥) → pair_character lead trail ≡ Some c → IsSize 16 c 2
+pub pair_size : (c lead trail : ℕ) → ((byte : ℕ) → shift_jis_character byte ≡ Some c → ⊥) → pair_character lead trail ≡ Some c → IsSize 14 c 2
 pair_size c lead trail none h = record {
   some = λ e mixed suits. (lead ∷ trail ∷ [], refl, pair_reads c lead trail h mixed);
   front = λ mixed suits bytes cs read.
@@ -137,7 +137,7 @@ pair_size c lead trail none h = record {
 }
 
 pub no_shift_jis : (c : ℕ) → ((byte : ℕ) → shift_jis_character byte ≡ Some c → ⊥) →
-    ((lead trail : ℕ) → pair_character lead trail ≡ Some c → ⊥) → IsSize 16 c 0
+    ((lead trail : ℕ) → pair_character lead trail ≡ Some c → ⊥) → IsSize 14 c 0
 no_shift_jis c none no_pair = record {
   some = λ e mixed suits. absurd (e refl);
   front = λ mixed suits bytes cs read.
@@ -149,7 +149,7 @@ no_shift_jis c none no_pair = record {
 
 -- ---- UTF-8
 
-by_utf8 : (mixed : Bool) (bytes : List ℕ) → read_bytes mixed (force_of 17) bytes ≡ (if is_utf8 bytes then Some (chars bytes) else None)
+by_utf8 : (mixed : Bool) (bytes : List ℕ) → read_bytes mixed (force_of 15) bytes ≡ (if is_utf8 bytes then Some (chars bytes) else None)
 unfolding read_bytes force_of
 by_utf8 mixed bytes = refl
 
@@ -165,7 +165,7 @@ one_scalar c h bytes e =
     cond-true (is_utf8 bytes) (Some (chars bytes)) None (is_utf8-from_IsUtf8 bytes good)
     ∙ ap (λ (x : List ℕ). Some x) (chars_past_char bytes [] c good (e ∙ sym (append-nil (encode_utf8 c))) ∙ ap (λ (x : List ℕ). c ∷ x) chars-nil)
 
-pub utf8_reads : (c : ℕ) → IsScalar c → (mixed : Bool) → read_bytes mixed (force_of 17) (encode_utf8 c) ≡ Some (c ∷ [])
+pub utf8_reads : (c : ℕ) → IsScalar c → (mixed : Bool) → read_bytes mixed (force_of 15) (encode_utf8 c) ≡ Some (c ∷ [])
 utf8_reads c h mixed = by_utf8 mixed (encode_utf8 c) ∙ one_scalar c h (encode_utf8 c) refl
 
 utf8_front : (bytes : List ℕ) (c : ℕ) (cs : List ℕ) → (if is_utf8 bytes then Some (chars bytes) else None) ≡ Some (c ∷ cs) →
@@ -177,7 +177,7 @@ utf8_front bytes c cs h =
     let scalars = subst (λ (x : List ℕ). all_scalars x ≡ true) e (scalars-chars bytes good) in
     (sym (encodes-chars bytes good) ∙ ap (λ (x : List ℕ). encode_utf8_all x) e, (and_parts _ _ scalars).1)
 
-pub utf8_size : (c : ℕ) → IsScalar c → IsSize 17 c (len_utf8 c)
+pub utf8_size : (c : ℕ) → IsScalar c → IsSize 15 c (len_utf8 c)
 utf8_size c h = record {
   some = λ e mixed suits. (encode_utf8 c, length-encode c, utf8_reads c h mixed);
   front = λ mixed suits bytes cs read.
@@ -203,39 +203,39 @@ first_single : IsSingle 0 (character_of_byte None)
 unfolding read_bytes force_of character_of_byte
 first_single mixed suits bytes = rw (suits.0 refl) refl
 
-last_single : IsSingle 18 common_character
+last_single : IsSingle 16 common_character
 unfolding read_bytes force_of
 last_single mixed suits bytes = rw (suits.1 refl) refl
 
-part_lane : (lane : ℕ) → 1 ≤ lane → lane ≤ 15 → (number : ℕ) × (force_of lane ≡ Some number) × ((number == 20) ≡ false) × ((number == 26) ≡ false)
+part_lane : (lane : ℕ) → 1 ≤ lane → lane ≤ 13 → (number : ℕ) × (force_of lane ≡ Some number) × ((number == 20) ≡ false) × ((number == 26) ≡ false)
 unfolding force_of
 part_lane lane low high = (
-  if is_between 1 11 lane then lane + 2 else lane + 3,
+  if is_between 1 9 lane then lane + 2 else (if lane == 10 then 13 else (if lane == 11 then 15 else lane + 5)),
   grind (arith, common_steps),
   grind (arith, common_steps),
   grind (arith, common_steps),
 )
 
-is_last : (lane : ℕ) → lane ≡ 18 → single_character lane ≡ common_character
+is_last : (lane : ℕ) → lane ≡ 16 → single_character lane ≡ common_character
 unfolding single_character
 is_last lane h = rw h refl
 
-pub is_other : (lane : ℕ) → (lane == 18) ≡ false → single_character lane ≡ character_of_byte (force_of lane)
+pub is_other : (lane : ℕ) → (lane == 16) ≡ false → single_character lane ≡ character_of_byte (force_of lane)
 unfolding single_character
-is_other lane h = cond-false (lane == 18) common_character (character_of_byte (force_of lane)) h
+is_other lane h = cond-false (lane == 16) common_character (character_of_byte (force_of lane)) h
 
 first_force : force_of 0 ≡ None
 unfolding force_of
 first_force = refl
 
-pub single_lane : (lane : ℕ) → lane < 19 → lane ≢ 16 → lane ≢ 17 → IsSingle lane (single_character lane)
+pub single_lane : (lane : ℕ) → lane < 17 → lane ≢ 14 → lane ≢ 15 → IsSingle lane (single_character lane)
 single_lane lane inside a b =
-    elim (cases_eq lane 18) [
+    elim (cases_eq lane 16) [
       | inl last ↦
           subst (λ (f : ℕ → Option ℕ). IsSingle lane f) (sym (is_last lane last))
           (subst (λ (k : ℕ). IsSingle k common_character) (sym last) last_single)
       | inr differs ↦
-          let no : (lane == 18) ≡ false = ne_eqb lane 18 differs in
+          let no : (lane == 16) ≡ false = ne_eqb lane 16 differs in
           subst (λ (f : ℕ → Option ℕ). IsSingle lane f) (sym (is_other lane no))
           (elim (cases_lt lane 1) [
             | inl low ↦
@@ -248,7 +248,7 @@ single_lane lane inside a b =
           ])
     ]
   where
-    within : (k : ℕ) → k < 19 → k ≢ 16 → k ≢ 17 → (k == 18) ≡ false → k ≤ 15
+    within : (k : ℕ) → k < 17 → k ≢ 14 → k ≢ 15 → (k == 16) ≡ false → k ≤ 13
     within k inside a b other = grind (arith, common_steps)
 
 -- ---- The Alphanumeric mode has ASCII alone
@@ -277,15 +277,15 @@ common_part number c part low h =
     cond-true (is_part number) (if is_between 0xa0 0xff c then _ else ascii_character c) _ part
     ∙ cond-false (is_between 0xa0 0xff c) _ (ascii_character c) none ∙ h
 
-lane_part : (lane : ℕ) → 1 ≤ lane → lane ≤ 15 → (number : ℕ) × (force_of lane ≡ Some number) × (is_part number ≡ true)
+lane_part : (lane : ℕ) → 1 ≤ lane → lane ≤ 13 → (number : ℕ) × (force_of lane ≡ Some number) × (is_part number ≡ true)
 unfolding force_of
 lane_part lane low high = (
-  if is_between 1 11 lane then lane + 2 else lane + 3,
+  if is_between 1 9 lane then lane + 2 else (if lane == 10 then 13 else (if lane == 11 then 15 else lane + 5)),
   grind (arith, common_steps),
   grind (arith, common_steps),
 )
 
-common_forced : (lane c : ℕ) → lane ≤ 15 → c < 128 → ascii_character c ≡ Some c → character_of_byte (force_of lane) c ≡ Some c
+common_forced : (lane c : ℕ) → lane ≤ 13 → c < 128 → ascii_character c ≡ Some c → character_of_byte (force_of lane) c ≡ Some c
 unfolding character_of_byte
 common_forced lane c high low h =
     elim (cases_lt lane 1) [
@@ -298,39 +298,39 @@ common_forced lane c high low h =
           subst (λ (force : Option ℕ). character_of_byte force c ≡ Some c) (sym w.1) (common_part w.0 c w.2 low h)
     ]
 
-pub common_size : (byte c : ℕ) → IsScalar c → common_character byte ≡ Some c → (lane : ℕ) → lane < 19 → IsSize lane c 1
+pub common_size : (byte c : ℕ) → IsScalar c → common_character byte ≡ Some c → (lane : ℕ) → lane < 17 → IsSize lane c 1
 common_size byte c scalar h lane inside =
     let w = common_ascii byte c h in
     let same = subst (λ (b : ℕ). common_character b ≡ Some c) w.0 h in
-    elim (cases_eq lane 16) [
+    elim (cases_eq lane 14) [
       | inl kana ↦ subst (λ (k : ℕ). IsSize k c 1) (sym kana) (kana_size c c (grind (arith, common_steps, same, w.1)))
       | inr a ↦
-          elim (cases_eq lane 17) [
+          elim (cases_eq lane 15) [
             | inl utf8 ↦
-                subst (λ (k : ℕ). IsSize k c 1) (sym utf8) (subst (λ (n : ℕ). IsSize 17 c n) (len_utf8_ascii c w.1) (utf8_size c scalar))
+                subst (λ (k : ℕ). IsSize k c 1) (sym utf8) (subst (λ (n : ℕ). IsSize 15 c n) (len_utf8_ascii c w.1) (utf8_size c scalar))
             | inr b ↦ one_size lane (single_character lane) c c (single_lane lane inside a b) (read a b)
           ]
     ]
   where
-    read : lane ≢ 16 → lane ≢ 17 → single_character lane c ≡ Some c
+    read : lane ≢ 14 → lane ≢ 15 → single_character lane c ≡ Some c
     read a b =
         let w = common_ascii byte c h in
-        elim (cases_eq lane 18) [
+        elim (cases_eq lane 16) [
           | inl last ↦ ap (λ (f : ℕ → Option ℕ). f c) (is_last lane last) ∙ subst (λ (x : ℕ). common_character x ≡ Some c) w.0 h
           | inr differs ↦
-              ap (λ (f : ℕ → Option ℕ). f c) (is_other lane (ne_eqb lane 18 differs)) ∙ common_forced lane c (within inside a b differs) w.1 w.2
+              ap (λ (f : ℕ → Option ℕ). f c) (is_other lane (ne_eqb lane 16 differs)) ∙ common_forced lane c (within inside a b differs) w.1 w.2
         ]
       where
-        within : lane < 19 → lane ≢ 16 → lane ≢ 17 → lane ≢ 18 → lane ≤ 15
+        within : lane < 17 → lane ≢ 14 → lane ≢ 15 → lane ≢ 16 → lane ≤ 13
         within inside a b other = grind (arith, common_steps)
 
-pub ones : (one lane : ℕ) → lane < 19 → get_or (replicate 19 one) lane 0 ≡ one
+pub ones : (one lane : ℕ) → lane < 17 → get_or (replicate 17 one) lane 0 ≡ one
 ones one lane inside = grind (arith, common_steps)
 
 -- ---- One size
 
 a_symbol : (lane : ℕ) → (mixed : Bool) × SuitsMixed mixed lane
-a_symbol lane = ((lane == 18), (λ e. grind (arith, common_steps), λ e. grind (arith, common_steps)))
+a_symbol lane = ((lane == 16), (λ e. grind (arith, common_steps), λ e. grind (arith, common_steps)))
 
 pub one_size_only : (lane c n m : ℕ) → IsSize lane c n → IsSize lane c m → n ≢ 0 → n ≡ m
 one_size_only lane c n m h k some =

@@ -96,7 +96,7 @@ OpenReads version plain mixed force (Some mode) bytes text =
 
 -- Complete parts that are read as a text, up to a lane.
 pub record AreComplete (version : Version) (plain mixed : Bool) (lane : ℕ) (parts : List Part) (text : List ℕ) : Type 0 where
-  pub inside : lane < 19
+  pub inside : lane < 17
   pub suits : SuitsMixed mixed lane
   pub read : read_parts plain mixed None parts ≡ Some text
   pub force : force_after None parts ≡ force_of lane
@@ -154,14 +154,16 @@ all_complete version plain mixed lane written text h =
     subst (λ (t : List ℕ). AreComplete version plain mixed lane (all_parts written) t) (sym h.text_is)
     (by_mode version plain mixed lane written.parts written.mode written.bytes h.before h.opened h.complete h.open_reads)
 
-known_lane : (to number : ℕ) → 1 ≤ to → to ≤ 17 → force_of to ≡ Some number → is_known number ≡ true
+known_lane : (to number : ℕ) → 1 ≤ to → to ≤ 15 → force_of to ≡ Some number → is_known number ≡ true
 unfolding force_of
 known_lane to number low high h = grind (arith, common_steps)
 
-lane_force : (to : ℕ) → 1 ≤ to → to ≤ 17 → (number : ℕ) × (force_of to ≡ Some number)
+lane_force : (to : ℕ) → 1 ≤ to → to ≤ 15 → (number : ℕ) × (force_of to ≡ Some number)
 unfolding force_of
 lane_force to low high = (
-  if is_between 1 11 to then to + 2 else (if is_between 12 15 to then to + 3 else (if to == 16 then 20 else 26)),
+  if is_between 1 9 to then to + 2
+      else (if to == 10 then 13
+      else (if to == 11 then 15 else (if is_between 12 13 to then to + 5 else (if to == 14 then 20 else 26)))),
   grind (arith, common_steps),
 )
 
@@ -172,7 +174,7 @@ one_designator plain mixed force number h = cond-true (is_known number) (Some []
 
 -- A designator more.
 pub designated : (version : Version) (plain mixed : Bool) (lane : ℕ) (parts : List Part) (text : List ℕ) (to number : ℕ) →
-    AreComplete version plain mixed lane parts text → 1 ≤ to → to ≤ 17 → force_of to ≡ Some number →
+    AreComplete version plain mixed lane parts text → 1 ≤ to → to ≤ 15 → force_of to ≡ Some number →
     HasPart version (designator number) → plain ≡ false →
     AreComplete version plain mixed to (parts ++ designator number ∷ []) text
 unfolding force_after has_kanji

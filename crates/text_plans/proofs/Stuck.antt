@@ -43,13 +43,13 @@ module _ (rules : Rules) (f : Facts) (lane : ℕ) (rest : Rest) where
       full_before (λ mode. let on = h.1 mode 1 in weight_full (can_write rules f lane mode) _ (omega (arith, on)))
       (λ mode count. let on = h.1 mode (count + 1) in weight_full (can_write rules f lane mode) _ (omega (arith, on)))
 
-alone : (rules : Rules) (f : Facts) (all : List Facts) (lane : ℕ) → lane < 19 → LIMIT ≤ rules.designator →
+alone : (rules : Rules) (f : Facts) (all : List Facts) (lane : ℕ) → lane < 17 → LIMIT ≤ rules.designator →
     entry rules (f ∷ all) lane ≡ lane_before rules f LIMIT lane (entry rules all lane)
 alone rules f all lane inside none =
     entry_step rules f all lane inside
-    ∙ ap (λ (switched : ℕ). lane_before rules f switched lane (entry rules all lane)) (switch_none rules f (rests_of rules all) 17 none)
+    ∙ ap (λ (switched : ℕ). lane_before rules f switched lane (entry rules all lane)) (switch_none rules f (rests_of rules all) 15 none)
 
-stuck : (rules : Rules) (all : List Facts) (lane k : ℕ) → lane < 19 → LIMIT ≤ rules.designator → k < length all →
+stuck : (rules : Rules) (all : List Facts) (lane k : ℕ) → lane < 17 → LIMIT ≤ rules.designator → k < length all →
     ((d : Facts) → IsUnwritable rules lane (get_or all k d)) → IsFull (entry rules all lane)
 stuck rules [] lane k inside none below h = absurd (omega (arith, below))
 stuck rules (f ∷ all) lane zero inside none below h =
@@ -58,12 +58,12 @@ stuck rules (f ∷ all) lane (suc k) inside none below h =
     subst IsFull (sym (alone rules f all lane inside none))
     (stuck_later rules f lane (entry rules all lane) (stuck rules all lane k inside none (omega (arith, below)) h))
 
-up_to_limit : (rules : Rules) (all : List Facts) (lane k : ℕ) → lane < 19 → LIMIT ≤ rules.designator → k < length all → (entry rules all lane).fresh ≤ LIMIT
+up_to_limit : (rules : Rules) (all : List Facts) (lane k : ℕ) → lane < 17 → LIMIT ≤ rules.designator → k < length all → (entry rules all lane).fresh ≤ LIMIT
 up_to_limit rules [] lane k inside none below = absurd (omega (arith, below))
 up_to_limit rules (f ∷ all) lane k inside none below =
     omega (arith, ap (λ (rest : Rest). rest.fresh) (alone rules f all lane inside none), fresh_is rules f LIMIT lane (entry rules all lane))
 
-pub at_limit : (rules : Rules) (all : List Facts) (lane k : ℕ) → lane < 19 → LIMIT ≤ rules.designator → k < length all →
+pub at_limit : (rules : Rules) (all : List Facts) (lane k : ℕ) → lane < 17 → LIMIT ≤ rules.designator → k < length all →
     ((d : Facts) → IsUnwritable rules lane (get_or all k d)) → LIMIT ≡ (entry rules all lane).fresh
 at_limit rules all lane k inside none below h =
     let full = (stuck rules all lane k inside none below h).0 in omega (arith, full, up_to_limit rules all lane k inside none below)

@@ -85,16 +85,16 @@ module _ (version : Version) (plain mixed : Bool) (rules : Rules) (are : AreRule
   none_open chars all k lane written h is =
       (subst (λ (m : Option Mode). OpenReads version plain mixed (force_of lane) m written.bytes h.draft.opened) is h.draft.open_reads).0
 
-  pub before_is : (all : List Facts) (k lane : ℕ) (d : Facts) (row : List Rest) → k < length all → lane < 19 → IsKeptLane rules.kept lane →
+  pub before_is : (all : List Facts) (k lane : ℕ) (d : Facts) (row : List Rest) → k < length all → lane < 17 → IsKeptLane rules.kept lane →
       KeepsEnough rules all → IsRowOf rules (drop (k + 1) all) row →
-      lane_before rules (get_or all k d) (switch_kept rules (get_or all k d) row 17) lane (get_or row lane no_rest) ≡ entry rules (drop k all) lane
+      lane_before rules (get_or all k d) (switch_kept rules (get_or all k d) row 15) lane (get_or row lane no_rest) ≡ entry rules (drop k all) lane
   before_is all k lane d row inside low keeps enough is =
       let more : drop k all ≡ get_or all k d ∷ drop (k + 1) all =
       let next : suc k ≡ k + 1 = omega arith in drop-cons all k d inside ∙ ap (λ (m : ℕ). get_or all k d ∷ drop m all) next in
       let needed = subst (λ (x : List Facts). KeepsEnough rules x) more (enough_from rules all k enough) in
       ap (λ (switched : ℕ). lane_before rules (get_or all k d) switched lane (get_or row lane no_rest))
       (kept_is rules (get_or all k d) (drop (k + 1) all) row is needed)
-      ∙ ap (λ (rest : Rest). lane_before rules (get_or all k d) (switch_least rules (get_or all k d) (rests_of rules (drop (k + 1) all)) 17) lane rest)
+      ∙ ap (λ (rest : Rest). lane_before rules (get_or all k d) (switch_least rules (get_or all k d) (rests_of rules (drop (k + 1) all)) 15) lane rest)
       (is.1 lane low keeps)
       ∙ sym (ap (λ (x : List Facts). entry rules x lane) more ∙ entry_step rules (get_or all k d) (drop (k + 1) all) lane low)
 

@@ -56,7 +56,7 @@ CanBe rules facts lane opened GoOn =
     (mode : Mode) × (opened ≡ Some mode) × (can_write rules facts lane mode ≡ true)
 CanBe rules facts lane opened (Begin mode) = can_write rules facts lane mode ≡ true
 CanBe rules facts lane opened (Change to mode) =
-    (1 ≤ to) × (to ≤ 17) × (can_write rules facts to mode ≡ true) × IsKeptLane rules.kept to
+    (1 ≤ to) × (to ≤ 15) × (can_write rules facts to mode ≡ true) × IsKeptLane rules.kept to
 
 -- The lane after a choice.
 abbrev pub lane_after : ℕ → Choice → ℕ
@@ -83,7 +83,7 @@ Makes facts lane c (Change to mode) old new =
 abbrev pub step_value : Rules → Facts → List Rest → ℕ → Written → ℕ
 step_value rules facts row lane written =
     open_value
-    (lane_before rules facts (switch_kept rules facts row 17) lane (get_or row lane no_rest))
+    (lane_before rules facts (switch_kept rules facts row 15) lane (get_or row lane no_rest))
     written.mode (length written.bytes)
 
 -- A character is written by a choice that weighs no more than what follows from there on.

@@ -22,21 +22,21 @@ TakesNoMore to lane sizes =
 -- Some characters stand for others: what takes no more by these takes no more by those.
 abbrev pub StandFor : List Facts → List Facts → Type 0
 StandFor some all =
-    (to lane : ℕ) → to < 19 → lane < 19 → All (λ facts. TakesNoMore to lane facts.sizes) some →
+    (to lane : ℕ) → to < 17 → lane < 17 → All (λ facts. TakesNoMore to lane facts.sizes) some →
     All (λ facts. TakesNoMore to lane facts.sizes) all
 
 -- What can be written after the designator of a lane can be written after that of another, in no
 -- more bits.
 pub record Dominates (kanji_lane to lane : ℕ) (all : List Facts) : Type 0 where
   pub from : 1 ≤ to
-  pub last : to ≤ 17
+  pub last : to ≤ 15
   pub kanji : kanji_lane ≡ lane → kanji_lane ≡ to
   pub sizes : All (λ facts. TakesNoMore to lane facts.sizes) all
 
 -- For each lane of a designator one is kept that dominates it.
 abbrev pub AreEnough : List Bool → ℕ → List Facts → Type 0
 AreEnough kept kanji_lane all =
-    (lane : ℕ) → 1 ≤ lane → lane ≤ 17 →
+    (lane : ℕ) → 1 ≤ lane → lane ≤ 15 →
     (to : ℕ) × IsKeptLane kept to × Dominates kanji_lane to lane all
 
 -- The lanes from 1 up to a number that are kept.
@@ -48,9 +48,9 @@ kept_up_to kept (suc lane) =
 
 -- The rules list the lanes of designators that they keep.
 pub record ListsLanes (rules : Rules) : Type 0 where
-  pub within : rules.count ≤ 17
-  pub counted : length (kept_up_to rules.kept 17) ≡ rules.count
-  pub listed : take rules.count rules.lanes ≡ kept_up_to rules.kept 17
+  pub within : rules.count ≤ 15
+  pub counted : length (kept_up_to rules.kept 15) ≡ rules.count
+  pub listed : take rules.count rules.lanes ≡ kept_up_to rules.kept 15
 
 -- The rules list the lanes that they keep: the lane in which a text begins, and enough of the
 -- others, of which they need none without designators.
@@ -74,6 +74,6 @@ switch_kept rules facts row (suc lane) =
 -- What follows before some characters, in the lanes that are kept.
 abbrev pub IsRowOf : Rules → List Facts → List Rest → Type 0
 IsRowOf rules all row =
-    (length row ≡ 19)
-    × ((lane : ℕ) → lane < 19 → IsKeptLane rules.kept lane →
+    (length row ≡ 17)
+    × ((lane : ℕ) → lane < 17 → IsKeptLane rules.kept lane →
     get_or row lane no_rest ≡ get_or (rests_of rules all) lane no_rest)

@@ -108,10 +108,10 @@ lane_before rules facts switched lane rest =
 unfoldable pub row_before : Rules → Facts → List Rest → List Rest
 row_before rules facts row =
     map
-    (λ lane. lane_before rules facts (switch_least rules facts row 17) lane (get_or row lane no_rest))
-    (range_with_len 0 19)
+    (λ lane. lane_before rules facts (switch_least rules facts row 15) lane (get_or row lane no_rest))
+    (range_with_len 0 17)
 
 -- What follows before some characters, in all lanes.
 unfoldable pub rests_of : Rules → List Facts → List Rest
-rests_of rules [] = map (λ (lane : ℕ). no_rest) (range_with_len 0 19)
+rests_of rules [] = map (λ (lane : ℕ). no_rest) (range_with_len 0 17)
 rests_of rules (facts ∷ rest) = row_before rules facts (rests_of rules rest)

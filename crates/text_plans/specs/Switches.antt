@@ -11,7 +11,7 @@ use Rattle.text_plans.specs.Search.{begin_in, no_rest, weight_if}
 pub record IsSwitch (rules : Rules) (facts : Facts) (row : List Rest) (found : Switch)
     : Type 0 where
   pub from : 1 ≤ found.lane
-  pub to : found.lane ≤ 17
+  pub to : found.lane ≤ 15
   pub kept : IsKeptLane rules.kept found.lane
   pub weight : found.weight ≡ weight_if true (rules.designator
       + begin_in rules facts found.lane (get_or row found.lane no_rest) found.mode)

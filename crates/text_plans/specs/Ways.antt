@@ -38,11 +38,11 @@ HasHeaders version rules =
 -- The lane in which a text begins, and the one in which Kanji segments are: they are read there,
 -- and nowhere else.
 pub record AreLanes (plain mixed : Bool) (start kanji_lane : ℕ) : Type 0 where
-  pub kanji : (lane : ℕ) → lane < 19 → kanji_lane ≡ lane →
+  pub kanji : (lane : ℕ) → lane < 17 → kanji_lane ≡ lane →
       ((plain || is_shift_jis (force_of lane)) ≡ true) × (mixed ≡ true)
   pub kanji_plain : plain ≡ true → kanji_lane ≡ start
-  pub kanji_mixed : plain ≡ false → mixed ≡ true → kanji_lane ≡ 16
-  pub inside : start < 19
+  pub kanji_mixed : plain ≡ false → mixed ≡ true → kanji_lane ≡ 14
+  pub inside : start < 17
   pub suits : SuitsMixed mixed start
   pub no_force : force_of start ≡ None
 

@@ -17,19 +17,19 @@ pub struct Facts {
     pub digit: bool,
     pub alphanumeric: bool,
     pub pair: bool,
-    pub sizes: [u8; 19],
+    pub sizes: [u8; 17],
 }
 
 /// Returns the single byte of a character in a lane, if there is one. A character of the lane of
 /// UTF-8 has none.
 #[tactic(auto, unfolding(crate::specs::Lanes::single_character))]
 pub fn single_in(c: char, lane: usize) -> Option<u8>
-    requires inside { lane < 19 }
-    requires single { lane ≢ 17 }
+    requires inside { lane < 17 }
+    requires single { lane ≢ 15 }
     ensures right { IfSome result (λ byte. single_character lane byte ≡ Some c) }
     ensures found { (byte : ℕ) → single_character lane byte ≡ Some c → result ≡ Some byte }
 {
-    if lane == 18 {
+    if lane == 16 {
         common_byte(c)
     } else {
         byte_of(c, designator_of(lane))
@@ -50,13 +50,13 @@ fn common_byte(c: char) -> Option<u8>
 
 /// Returns the number of bytes of a character in a lane, 0 if it has none.
 fn size_in(c: char, lane: usize) -> u8
-    requires { lane < 19 }
+    requires { lane < 17 }
     ensures { IsSize lane c result }
 {
-    if lane == 16 {
+    if lane == 14 {
         return size_in_shift_jis(c);
     }
-    if lane == 17 {
+    if lane == 15 {
         return c.len_utf8() as u8;
     }
     match single_in(c, lane) {
@@ -67,7 +67,7 @@ fn size_in(c: char, lane: usize) -> u8
 
 /// Returns the number of bytes of a character in Shift JIS, 0 if it has none.
 fn size_in_shift_jis(c: char) -> u8
-    ensures { IsSize 16 c result }
+    ensures { IsSize 14 c result }
 {
     match byte_of(c, Some(20)) {
         Some(_) => 1,
@@ -81,22 +81,27 @@ fn size_in_shift_jis(c: char) -> u8
 /// Returns how far the designator of a part of ISO/IEC 8859 is from 3, by the number of the part's
 /// lane less 1.
 fn column_of(part: usize) -> usize
-    requires { part < 15 }
+    requires { part < 13 }
     ensures { result ≡ column_of part }
 {
-    if part < 11 { part } else { part + 1 }
+    match part {
+        0..=8 => part,
+        9 => 10,
+        10 => 12,
+        _ => part + 3,
+    }
 }
 
 /// Returns the number of bytes in each lane of a character that is not ASCII.
-fn sizes_beyond_ascii(c: char) -> [u8; 19]
+fn sizes_beyond_ascii(c: char) -> [u8; 17]
     requires { 128 ≤ c }
-    ensures { (lane : ℕ) → lane < 19 → IsSize lane c (get_or result lane 0) }
+    ensures { (lane : ℕ) → lane < 17 → IsSize lane c (get_or result lane 0) }
 {
     let bytes = part_bytes(c);
-    let mut sizes = [0; 19];
-    sizes[16] = size_in_shift_jis(c);
-    sizes[17] = c.len_utf8() as u8;
-    for part in 0..15 {
+    let mut sizes = [0; 17];
+    sizes[14] = size_in_shift_jis(c);
+    sizes[15] = c.len_utf8() as u8;
+    for part in 0..13 {
         sizes[part + 1] = bytes[column_of(part)].min(1);
     }
     sizes
@@ -104,17 +109,17 @@ fn sizes_beyond_ascii(c: char) -> [u8; 19]
 
 /// Returns the number of bytes of a character in each lane: 1 in all of them if it is ASCII that is
 /// the same in JIS X 0201.
-fn sizes_of(c: char) -> [u8; 19]
-    ensures { (lane : ℕ) → lane < 19 → IsSize lane c (get_or result lane 0) }
+fn sizes_of(c: char) -> [u8; 17]
+    ensures { (lane : ℕ) → lane < 17 → IsSize lane c (get_or result lane 0) }
 {
     if let Some(_) = common_byte(c) {
-        return [1; 19];
+        return [1; 17];
     }
     if c >= '\u{80}' {
         return sizes_beyond_ascii(c);
     }
-    let mut sizes = [0; 19];
-    for lane in 0..19 {
+    let mut sizes = [0; 17];
+    for lane in 0..17 {
         sizes[lane] = size_in(c, lane);
     }
     sizes

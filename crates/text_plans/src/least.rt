@@ -55,9 +55,9 @@ fn lighter(first: (Rules, u32), second: (Rules, u32)) -> (Rules, u32)
 
 /// Returns the rules of a version for a way, with the least weight of a text by them; `needed` are
 /// the lanes of designators that the text needs without Kanji segments.
-fn weighed(version: Version, way: Way, all: &[Facts], needed: &[bool; 19]) -> (Rules, u32)
+fn weighed(version: Version, way: Way, all: &[Facts], needed: &[bool; 17]) -> (Rules, u32)
     requires version { HasMicroNumber version }
-    requires needed { AreEnough needed.now 19 all.now }
+    requires needed { AreEnough needed.now 17 all.now }
     ensures version { result.0.version ≡ version }
     ensures way { result.0.way ≡ way }
     ensures rules { AreRulesOf result.0 }
@@ -71,9 +71,9 @@ fn weighed(version: Version, way: Way, all: &[Facts], needed: &[bool; 19]) -> (R
 
 /// Returns whether a text weighs as much as the limit in each way; `needed` are the lanes of
 /// designators that it needs without Kanji segments.
-fn is_too_long(version: Version, all: &[Facts], needed: &[bool; 19]) -> bool
+fn is_too_long(version: Version, all: &[Facts], needed: &[bool; 17]) -> bool
     requires version { HasMicroNumber version }
-    requires needed { AreEnough needed.now 19 all.now }
+    requires needed { AreEnough needed.now 17 all.now }
     ensures { result ≡ true → (text : List ℕ) (others : List Part) → AreAllFacts text all.now →
         AreTextParts version text others → LIMIT ≤ weight_of version others }
 {
@@ -98,12 +98,12 @@ fn up_to(found: (Rules, u32), weight: u32) -> Option<Rules>
 /// Returns the rules of another way by which a text weighs no more than by those of the mixed way,
 /// if there are some; `weight` is what it weighs by these. If what is ASCII is the same in
 /// JIS X 0201 in this text, the mixed way has all that the unmixed one has.
-fn lighter_rules(mixed: &Rules, weight: u32, all: &[Facts], needed: &[bool; 19]) -> Option<Rules>
+fn lighter_rules(mixed: &Rules, weight: u32, all: &[Facts], needed: &[bool; 17]) -> Option<Rules>
     requires version { HasMicroNumber mixed.now.version }
     requires way { mixed.now.way ≡ Mixed }
     requires rules { AreRulesOf mixed.now }
     requires weight { weight ≡ first_weight mixed.now all.now }
-    requires needed { AreEnough needed.now 19 all.now }
+    requires needed { AreEnough needed.now 17 all.now }
     ensures version { IfSome result (λ rules. rules.version ≡ mixed.now.version) }
     ensures rules { IfSome result (λ rules. AreRulesOf rules) }
     ensures enough { IfSome result (λ rules. KeepsEnough rules all.now) }
@@ -111,7 +111,7 @@ fn lighter_rules(mixed: &Rules, weight: u32, all: &[Facts], needed: &[bool; 19])
     ensures none { IfNone result (AreLightest mixed.now.version mixed.now all.now) }
 {
     let plain = weighed(mixed.version, Way::Plain, all, needed);
-    if dominates(all, 18, 0) {
+    if dominates(all, 16, 0) {
         return up_to(plain, weight);
     }
     let unmixed = weighed(mixed.version, Way::Unmixed, all, needed);
@@ -126,7 +126,7 @@ fn plan_by(
     rules: &Rules,
     chars: &[char],
     all: &[Facts],
-    rows: &[[Rest; 19]],
+    rows: &[[Rest; 17]],
 ) -> Result<Option<(TextPlan, usize)>, AllocError>
     requires version { rules.now.version ≡ version }
     requires known { AreAllFacts chars.now all.now }
@@ -155,11 +155,11 @@ fn plan_of_pairs(
     version: Version,
     chars: &[char],
     all: &[Facts],
-    needed: &[bool; 19],
+    needed: &[bool; 17],
 ) -> Result<Option<(TextPlan, usize)>, AllocError>
     requires version { HasMicroNumber version }
     requires known { AreAllFacts chars.now all.now }
-    requires needed { AreEnough needed.now 19 all.now }
+    requires needed { AreEnough needed.now 17 all.now }
     ensures least { IfOk result (λ found. IfSome found (λ plan.
         AreLeast version chars.now (plan_parts plan.0))) }
     ensures bits { IfOk result (λ found. IfSome found (λ plan.

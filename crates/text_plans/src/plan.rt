@@ -11,7 +11,7 @@ use std::marker::Model;
 /// A part of a plan.
 #[derive(Clone, Copy, Debug, PartialEq, Eq)]
 pub enum PlanPart {
-    /// An ECI designator: 3 to 13, 15 to 18, 20 or 26.
+    /// An ECI designator: 3 to 11, 13, 15, 17, 18, 20 or 26.
     Designator(u32),
     /// A segment in a mode: the bytes of the plan from `begin` up to, not including, `end`. In the
     /// Kanji mode each character is two bytes of Shift JIS.

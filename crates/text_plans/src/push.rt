@@ -15,16 +15,16 @@ use text_reading::{byte_of, pair_of};
 
 /// Appends the bytes of a character in a lane, of which it has some.
 fn push_bytes(draft: &mut Draft, c: char, facts: &Facts, lane: usize) -> Result<(), AllocError>
-    requires lane { lane < 19 }
+    requires lane { lane < 17 }
     requires known { AreFacts c facts.now }
     requires some { get_or facts.now.sizes lane 0 ≢ 0 }
     ensures { OnOk result
         (AddsBytes lane Byte c (get_or facts.now.sizes lane 0) draft.old draft.new) }
 {
-    if lane == 16 {
+    if lane == 14 {
         return push_shift_jis(draft, c, facts);
     }
-    if lane == 17 {
+    if lane == 15 {
         draft.push(c.encode_utf8(&mut [0; 4]).as_bytes())?;
         return Ok(());
     }
@@ -40,8 +40,8 @@ fn push_bytes(draft: &mut Draft, c: char, facts: &Facts, lane: usize) -> Result<
 /// Appends the bytes of a character in Shift JIS, of which it has some.
 fn push_shift_jis(draft: &mut Draft, c: char, facts: &Facts) -> Result<(), AllocError>
     requires known { AreFacts c facts.now }
-    requires some { get_or facts.now.sizes 16 0 ≢ 0 }
-    ensures { OnOk result (AddsBytes 16 Byte c (get_or facts.now.sizes 16 0) draft.old draft.new) }
+    requires some { get_or facts.now.sizes 14 0 ≢ 0 }
+    ensures { OnOk result (AddsBytes 14 Byte c (get_or facts.now.sizes 14 0) draft.old draft.new) }
 {
     match byte_of(c, Some(20)) {
         Some(byte) => {
@@ -60,7 +60,7 @@ fn push_shift_jis(draft: &mut Draft, c: char, facts: &Facts) -> Result<(), Alloc
 
 /// Appends the two bytes of a pair of the Kanji mode.
 fn push_pair(draft: &mut Draft, c: char, facts: &Facts, lane: usize) -> Result<(), AllocError>
-    requires lane { lane < 19 }
+    requires lane { lane < 17 }
     requires known { AreFacts c facts.now }
     requires pair { facts.now.pair ≡ true }
     ensures { OnOk result (AddsBytes lane Kanji c 2 draft.old draft.new) }
@@ -105,7 +105,7 @@ pub fn push_char(
     lane: usize,
     rules: &Rules,
 ) -> Result<(), AllocError>
-    requires lane { lane < 19 }
+    requires lane { lane < 17 }
     requires known { AreFacts c facts.now }
     requires allowed { can_write rules.now facts.now lane mode ≡ true }
     ensures { OnOk result

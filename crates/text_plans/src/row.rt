@@ -76,7 +76,7 @@ fn begin_one(allowed: bool, header: u32, bits: u64, rest: u32) -> u32
 /// of such a segment.
 #[tactic(auto, unfolding(crate::specs::Search::begin_least))]
 pub fn begin(rules: &Rules, facts: &Facts, lane: usize, rest: &Rest) -> (u32, Mode)
-    requires { lane < 19 }
+    requires { lane < 17 }
     ensures least { result.0 ≡ begin_least rules.now facts.now lane rest.now }
     ensures mode { result.0 ≡ begin_in rules.now facts.now lane rest.now result.1 }
 {
@@ -102,7 +102,7 @@ fn lesser(first: (u32, Mode), second: (u32, Mode)) -> (u32, Mode)
 /// Returns the least weight of what follows if a character begins a segment in a lane.
 #[tactic(auto, unfolding(crate::specs::Search::begin_least))]
 pub fn begin_weight(rules: &Rules, facts: &Facts, lane: usize, rest: &Rest) -> u32
-    requires { lane < 19 }
+    requires { lane < 17 }
     ensures { result ≡ begin_least rules.now facts.now lane rest.now }
 {
     let size = facts.sizes[lane];
@@ -131,7 +131,7 @@ pub fn lane_before(
     lane: usize,
     rest: &Rest,
 ) -> Rest
-    requires lane { lane < 19 }
+    requires lane { lane < 17 }
     requires begin { begin ≡ begin_least rules.now facts.now lane rest.now }
     ensures { result ≡ lane_before rules.now facts.now switched lane rest.now }
 {
@@ -203,8 +203,8 @@ pub struct Switch {
 /// with the lane of the designator and the mode of the segment.
 #[tactic(auto, unfolding(crate::specs::Keeping::switch_kept))]
 pub fn least_switch(rules: &Rules, facts: &Facts, row: &[Rest]) -> Switch
-    requires { length row.now ≡ 19 }
-    ensures least { result.weight ≡ switch_kept rules.now facts.now row.now 17 }
+    requires { length row.now ≡ 17 }
+    ensures least { result.weight ≡ switch_kept rules.now facts.now row.now 15 }
     ensures of { result.weight < LIMIT → IsSwitch rules.now facts.now row.now result }
 {
     let mut best = Switch {
@@ -212,7 +212,7 @@ pub fn least_switch(rules: &Rules, facts: &Facts, row: &[Rest]) -> Switch
         lane: 0,
         mode: Mode::Byte,
     };
-    for earlier in 0..17 {
+    for earlier in 0..15 {
         let lane = earlier + 1;
         if rules.kept[lane] {
             let (weight, mode) = begin(rules, facts, lane, &row[lane]);
@@ -229,7 +229,7 @@ pub fn least_switch(rules: &Rules, facts: &Facts, row: &[Rest]) -> Switch
 /// a designator.
 #[derive(Clone, Copy)]
 struct Begins {
-    weights: [u32; 19],
+    weights: [u32; 17],
     switched: u32,
 }
 
@@ -237,9 +237,9 @@ struct Begins {
 fn lane_at(rules: &Rules, at: usize) -> usize
     requires lists { ListsLanes rules.now }
     requires at { at < rules.now.count }
-    ensures is { result ≡ get_or (kept_up_to rules.now.kept 17) at 0 }
+    ensures is { result ≡ get_or (kept_up_to rules.now.kept 15) at 0 }
     ensures from { 1 ≤ result }
-    ensures to { result ≤ 17 }
+    ensures to { result ≤ 15 }
 {
     usize::from(rules.lanes[at])
 }
@@ -248,14 +248,14 @@ fn lane_at(rules: &Rules, at: usize) -> usize
 /// designators that are kept.
 fn listed_begins(rules: &Rules, facts: &Facts, row: &[Rest]) -> Begins
     requires lists { ListsLanes rules.now }
-    requires length { length row.now ≡ 19 }
-    ensures length { length result.weights ≡ 19 }
-    ensures weights { (lane : ℕ) → 1 ≤ lane → lane ≤ 17 → IsKeptLane rules.now.kept lane →
+    requires length { length row.now ≡ 17 }
+    ensures length { length result.weights ≡ 17 }
+    ensures weights { (lane : ℕ) → 1 ≤ lane → lane ≤ 15 → IsKeptLane rules.now.kept lane →
         get_or result.weights lane 0
         ≡ begin_least rules.now facts.now lane (get_or row.now lane no_rest) }
-    ensures switched { result.switched ≡ switch_kept rules.now facts.now row.now 17 }
+    ensures switched { result.switched ≡ switch_kept rules.now facts.now row.now 15 }
 {
-    let mut weights = [0; 19];
+    let mut weights = [0; 17];
     let mut switched = LIMIT;
     for at in 0..rules.count {
         let lane = lane_at(rules, at);
@@ -270,18 +270,18 @@ fn listed_begins(rules: &Rules, facts: &Facts, row: &[Rest]) -> Begins
 /// are kept.
 fn begins_of(rules: &Rules, facts: &Facts, row: &[Rest]) -> Begins
     requires lists { ListsLanes rules.now }
-    requires length { length row.now ≡ 19 }
-    ensures weights { (lane : ℕ) → lane < 19 → IsKeptLane rules.now.kept lane →
+    requires length { length row.now ≡ 17 }
+    ensures weights { (lane : ℕ) → lane < 17 → IsKeptLane rules.now.kept lane →
         get_or result.weights lane 0
         ≡ begin_least rules.now facts.now lane (get_or row.now lane no_rest) }
-    ensures switched { result.switched ≡ switch_kept rules.now facts.now row.now 17 }
+    ensures switched { result.switched ≡ switch_kept rules.now facts.now row.now 15 }
 {
     let mut begins = listed_begins(rules, facts, row);
     if rules.kept[0] {
         begins.weights[0] = begin_weight(rules, facts, 0, &row[0]);
     }
-    if rules.kept[18] {
-        begins.weights[18] = begin_weight(rules, facts, 18, &row[18]);
+    if rules.kept[16] {
+        begins.weights[16] = begin_weight(rules, facts, 16, &row[16]);
     }
     begins
 }
@@ -290,16 +290,16 @@ fn begins_of(rules: &Rules, facts: &Facts, row: &[Rest]) -> Begins
 /// of what follows that character.
 fn listed_row(rules: &Rules, facts: &Facts, begins: &Begins, row: &mut [Rest])
     requires lists { ListsLanes rules.now }
-    requires length { length row.old ≡ 19 }
-    requires begins { (lane : ℕ) → lane < 19 → IsKeptLane rules.now.kept lane →
+    requires length { length row.old ≡ 17 }
+    requires begins { (lane : ℕ) → lane < 17 → IsKeptLane rules.now.kept lane →
         get_or begins.now.weights lane 0
         ≡ begin_least rules.now facts.now lane (get_or row.old lane no_rest) }
-    ensures length { length row.new ≡ 19 }
-    ensures lanes { (lane : ℕ) → 1 ≤ lane → lane ≤ 17 → IsKeptLane rules.now.kept lane →
+    ensures length { length row.new ≡ 17 }
+    ensures lanes { (lane : ℕ) → 1 ≤ lane → lane ≤ 15 → IsKeptLane rules.now.kept lane →
         get_or row.new lane no_rest ≡ lane_before rules.now facts.now begins.now.switched lane
         (get_or row.old lane no_rest) }
     ensures first { get_or row.new 0 no_rest ≡ get_or row.old 0 no_rest }
-    ensures last { get_or row.new 18 no_rest ≡ get_or row.old 18 no_rest }
+    ensures last { get_or row.new 16 no_rest ≡ get_or row.old 16 no_rest }
 {
     for at in 0..rules.count {
         let lane = lane_at(rules, at);
@@ -312,25 +312,25 @@ fn listed_row(rules: &Rules, facts: &Facts, begins: &Begins, row: &mut [Rest])
 /// that character.
 pub fn row_before(rules: &Rules, facts: &Facts, row: &mut [Rest])
     requires lists { ListsLanes rules.now }
-    requires length { length row.old ≡ 19 }
-    ensures length { length row.new ≡ 19 }
-    ensures lanes { (lane : ℕ) → lane < 19 → IsKeptLane rules.now.kept lane →
+    requires length { length row.old ≡ 17 }
+    ensures length { length row.new ≡ 17 }
+    ensures lanes { (lane : ℕ) → lane < 17 → IsKeptLane rules.now.kept lane →
         get_or row.new lane no_rest ≡ lane_before rules.now facts.now
-        (switch_kept rules.now facts.now row.old 17) lane (get_or row.old lane no_rest) }
+        (switch_kept rules.now facts.now row.old 15) lane (get_or row.old lane no_rest) }
 {
     let begins = begins_of(rules, facts, row);
     listed_row(rules, facts, &begins, row);
     if rules.kept[0] {
         row[0] = lane_before(rules, facts, begins.weights[0], begins.switched, 0, &row[0]);
     }
-    if rules.kept[18] {
-        row[18] = lane_before(
+    if rules.kept[16] {
+        row[16] = lane_before(
             rules,
             facts,
-            begins.weights[18],
+            begins.weights[16],
             begins.switched,
-            18,
-            &row[18],
+            16,
+            &row[16],
         );
     }
 }

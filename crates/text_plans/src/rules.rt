@@ -33,14 +33,14 @@ pub struct Rules {
     pub kanji: u32,
     /// The weight of an ECI designator.
     pub designator: u32,
-    /// The lane in which a text begins: 0, or 18 if the symbol may have Kanji segments.
+    /// The lane in which a text begins: 0, or 16 if the symbol may have Kanji segments.
     pub start: usize,
-    /// The only lane in which a segment may be in the Kanji mode, 19 if there is none.
+    /// The only lane in which a segment may be in the Kanji mode, 17 if there is none.
     pub kanji_lane: usize,
     /// The lanes that are looked at.
-    pub kept: [bool; 19],
+    pub kept: [bool; 17],
     /// Those of them that have designators, in their order, and how many they are.
-    pub lanes: [u8; 17],
+    pub lanes: [u8; 15],
     pub count: usize,
 }
 
@@ -96,9 +96,9 @@ fn lanes_of(way: Way) -> (usize, usize)
     ensures { AreLanes (plain_of way) (mixed_of way) result.0 result.1 }
 {
     match way {
-        Way::Plain => (18, 18),
-        Way::Unmixed => (0, 19),
-        Way::Mixed => (18, 16),
+        Way::Plain => (16, 16),
+        Way::Unmixed => (0, 17),
+        Way::Mixed => (16, 14),
     }
 }
 
@@ -120,8 +120,8 @@ pub fn rules_of(version: Version, way: Way) -> Rules
         designator: designator_weight(version, way),
         start,
         kanji_lane,
-        kept: [false; 19],
-        lanes: [0; 17],
+        kept: [false; 17],
+        lanes: [0; 15],
         count: 0,
     }
 }

@@ -13,7 +13,7 @@ use std::alloc::{AllocError, Global};
 
 /// Returns whether a character can be written in no mode, in a lane.
 fn is_unwritable(rules: &Rules, facts: &Facts, lane: usize) -> bool
-    requires { lane < 19 }
+    requires { lane < 17 }
     ensures { result ≡ true → IsUnwritable rules.now lane facts.now }
 {
     let pair = facts.pair && rules.kanji_lane == lane;
@@ -22,7 +22,7 @@ fn is_unwritable(rules: &Rules, facts: &Facts, lane: usize) -> bool
 
 /// Returns whether some character of a text can be written in no mode, in a lane.
 fn has_unwritable(rules: &Rules, all: &[Facts], lane: usize) -> bool
-    requires { lane < 19 }
+    requires { lane < 17 }
     ensures { result ≡ true → (k : ℕ) × (k < length all.now)
         × ((d : Facts) → IsUnwritable rules.now lane (get_or all.now k d)) }
 {
@@ -36,7 +36,7 @@ fn has_unwritable(rules: &Rules, all: &[Facts], lane: usize) -> bool
 
 /// Returns the least weight of a text without designators, up to the limit.
 fn weight_in_one_lane(rules: &Rules, all: &[Facts]) -> u32
-    requires start { rules.now.start < 19 }
+    requires start { rules.now.start < 17 }
     requires none { LIMIT ≤ rules.now.designator }
     ensures { result ≡ (get_or (rests_of rules.now all.now) rules.now.start no_rest).fresh }
 {
@@ -51,7 +51,7 @@ fn weight_in_one_lane(rules: &Rules, all: &[Facts]) -> u32
 
 /// Returns the least weight of a text, up to the limit.
 pub fn least_weight(rules: &Rules, all: &[Facts]) -> u32
-    requires start { rules.now.start < 19 }
+    requires start { rules.now.start < 17 }
     requires enough { KeepsEnough rules.now all.now }
     ensures { result ≡ (get_or (rests_of rules.now all.now) rules.now.start no_rest).fresh }
 {
@@ -61,7 +61,7 @@ pub fn least_weight(rules: &Rules, all: &[Facts]) -> u32
         }
         return weight_in_one_lane(rules, all);
     }
-    let mut row = [NO_REST; 19];
+    let mut row = [NO_REST; 17];
     for k in 0..all.len() {
         row_before(rules, &all[all.len() - 1 - k], &mut row);
     }
@@ -71,14 +71,14 @@ pub fn least_weight(rules: &Rules, all: &[Facts]) -> u32
 /// Returns what follows the last characters of a text in the lanes that are kept: first what
 /// follows all of it, then what follows before its last character, and so on. It fails with
 /// `AllocError` if an allocation fails.
-pub fn rows_of(alloc: Global, rules: &Rules, all: &[Facts]) -> Result<Vec<[Rest; 19]>, AllocError>
+pub fn rows_of(alloc: Global, rules: &Rules, all: &[Facts]) -> Result<Vec<[Rest; 17]>, AllocError>
     requires enough { KeepsEnough rules.now all.now }
     ensures length { IfOk result (λ rows. length rows.items ≡ length all.now + 1) }
     ensures rows { IfOk result (λ rows. (k : ℕ) → k ≤ length all.now →
         IsRowOf rules.now (drop (length all.now - k) all.now) (get_or rows.items k [])) }
 {
     let mut rows = Vec::with_capacity(alloc, all.len() + 1)?;
-    let mut row = [NO_REST; 19];
+    let mut row = [NO_REST; 17];
     rows.push(row)?;
     for k in 0..all.len() {
         row_before(rules, &all[all.len() - 1 - k], &mut row);
@@ -88,8 +88,8 @@ pub fn rows_of(alloc: Global, rules: &Rules, all: &[Facts]) -> Result<Vec<[Rest;
 }
 
 /// Returns the least weight of a text, up to the limit, by what follows its last characters.
-pub fn weight_in(rules: &Rules, all: &[Facts], rows: &[[Rest; 19]]) -> u32
-    requires start { rules.now.start < 19 }
+pub fn weight_in(rules: &Rules, all: &[Facts], rows: &[[Rest; 17]]) -> u32
+    requires start { rules.now.start < 17 }
     requires enough { KeepsEnough rules.now all.now }
     requires rows { AreRowsOf rules.now all.now rows.now }
     ensures { result ≡ first_weight rules.now all.now }

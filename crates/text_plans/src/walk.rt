@@ -30,7 +30,7 @@ pub enum Choice {
 
 /// Returns the weight of a character that goes on with a segment of a mode and a number of bytes.
 fn going_on(rules: &Rules, facts: &Facts, lane: usize, rest: &Rest, mode: Mode, count: usize) -> u32
-    requires { lane < 19 }
+    requires { lane < 17 }
     ensures { result ≡ go_on rules.now facts.now lane rest.now mode count }
 {
     let size = facts.sizes[lane];
@@ -62,7 +62,7 @@ fn opened_weight(
     opened: Option<Mode>,
     count: usize,
 ) -> u32
-    requires { lane < 19 }
+    requires { lane < 17 }
     ensures { result ≡ open_weight rules.now facts.now lane rest.now opened count }
 {
     match opened {
@@ -107,10 +107,10 @@ fn choice_of(
     count: usize,
     value: u32,
 ) -> Choice
-    requires lane { lane < 19 }
-    requires row { length row.now ≡ 19 }
+    requires lane { lane < 17 }
+    requires row { length row.now ≡ 17 }
     requires value { value ≡ open_value (lane_before rules.now facts.now
-        (switch_kept rules.now facts.now row.now 17)
+        (switch_kept rules.now facts.now row.now 15)
         lane (get_or row.now lane no_rest)) opened count }
     ensures right { value < LIMIT →
         choice_weight rules.now facts.now row.now lane opened count result ≡ value }
@@ -138,7 +138,7 @@ fn write_char(
     lane: usize,
     rules: &Rules,
 ) -> Result<usize, AllocError>
-    requires lane { lane < 19 }
+    requires lane { lane < 17 }
     requires known { AreFacts c facts.now }
     requires possible { CanBe rules.now facts.now lane draft.old.mode choice }
     requires sound { draft.old.mode ≡ None → draft.old.bytes ≡ [] }
@@ -181,8 +181,8 @@ fn write_next(
     c: char,
     value: u32,
 ) -> Result<usize, AllocError>
-    requires lane { lane < 19 }
-    requires row { length row.now ≡ 19 }
+    requires lane { lane < 17 }
+    requires row { length row.now ≡ 17 }
     requires known { AreFacts c facts.now }
     requires sound { draft.old.mode ≡ None → draft.old.bytes ≡ [] }
     requires value { value ≡ step_value rules.now facts.now row.now lane draft.old }
@@ -201,7 +201,7 @@ pub fn plan_of(
     rules: &Rules,
     chars: &[char],
     all: &[Facts],
-    rows: &[[Rest; 19]],
+    rows: &[[Rest; 17]],
 ) -> Result<TextPlan, AllocError>
     requires known { AreAllFacts chars.now all.now }
     requires rules { AreRulesOf rules.now }

@@ -20,7 +20,7 @@ use Rattle.text_reading.specs.Search.{byte_in, byte_candidate_of}
 unfoldable is_found : List (List ℕ) → List (List ℕ) → ℕ → ℕ → Bool
 is_found places codes n c =
     let place = 16 * (deep places (c / 16) + c % 16) + n / 96 in
-    nat_le 0x80 c && (nat_lt c 9216 && (nat_lt place 9472 && (deep codes place == 0xa0 + n % 96)))
+    nat_le 0x80 c && (nat_lt c 9216 && (nat_lt place 9088 && (deep codes place == 0xa0 + n % 96)))
 
 -- So has each character in a part of the table that begins at `n`.
 unfoldable all_found : List (List ℕ) → List (List ℕ) → ℕ → List ℕ → Bool
@@ -28,7 +28,7 @@ all_found places codes n [] = true
 all_found places codes n (c ∷ cs) =
     cond (c == 0x20) true (is_found places codes n c) && all_found places codes (suc n) cs
 
-table_found : all_found (tails 9 PLACES) (tails 148 CODES) 0 PARTS ≡ true
+table_found : all_found (tails 9 PLACES) (tails 142 CODES) 0 PARTS ≡ true
 unfolding all_found is_found tails
 table_found = refl
 
@@ -54,22 +54,22 @@ record Found (n c : ℕ) : Type 0 where
   beyond : 0x80 ≤ c
   byte : get_or CODES (16 * (get_or PLACES (c / 16) 0 + c % 16) + n / 96) 0 ≡ 0xa0 + n % 96
 
-by_places : (places codes : List ℕ) (n c : ℕ) → is_found (tails 9 places) (tails 148 codes) n c ≡ true →
+by_places : (places codes : List ℕ) (n c : ℕ) → is_found (tails 9 places) (tails 142 codes) n c ≡ true →
     (0x80 ≤ c) × (c < 9216) × (get_or codes (16 * (get_or places (c / 16) 0 + c % 16) + n / 96) 0 ≡ 0xa0 + n % 96)
 unfolding is_found
 by_places places codes n c h =
     let place = 16 * (deep (tails 9 places) (c / 16) + c % 16) + n / 96 in
-    let is = deep (tails 148 codes) place == 0xa0 + n % 96 in
-    let whole = and_parts (nat_le 0x80 c) (nat_lt c 9216 && (nat_lt place 9472 && is)) h in
-    let rest = and_parts (nat_lt c 9216) (nat_lt place 9472 && is) whole.1 in
-    let last = and_parts (nat_lt place 9472) is rest.1 in
+    let is = deep (tails 142 codes) place == 0xa0 + n % 96 in
+    let whole = and_parts (nat_le 0x80 c) (nat_lt c 9216 && (nat_lt place 9088 && is)) h in
+    let rest = and_parts (nat_lt c 9216) (nat_lt place 9088 && is) whole.1 in
+    let last = and_parts (nat_lt place 9088) is rest.1 in
     let low : c < 9216 = ltb-true c 9216 rest.0 in
     let first : deep (tails 9 places) (c / 16) ≡ get_or places (c / 16) 0 = deep_is 9 (c / 16) places (omega arith) in
-    let within : place < 9472 = ltb-true place 9472 last.0 in (
+    let within : place < 9088 = ltb-true place 9088 last.0 in (
       leb-true 0x80 c whole.0,
       low,
       ap (λ k. get_or codes (16 * (k + c % 16) + n / 96) 0) (sym first)
-          ∙ sym (deep_is 148 place codes (omega arith)) ∙ eqb-true (deep (tails 148 codes) place) (0xa0 + n % 96) last.1,
+          ∙ sym (deep_is 142 place codes (omega arith)) ∙ eqb-true (deep (tails 142 codes) place) (0xa0 + n % 96) last.1,
     )
 
 pub found : (n c : ℕ) → character_in PARTS n ≡ Some c →
@@ -77,8 +77,8 @@ pub found : (n c : ℕ) → character_in PARTS n ≡ Some c →
 found n c h =
     let at = at_number PARTS n c h in
     let e : 0 + n ≡ n = omega arith in
-    by_places PLACES CODES n c (subst (λ m. is_found (tails 9 PLACES) (tails 148 CODES) m c ≡ true) e
-    (stands (tails 9 PLACES) (tails 148 CODES) 0 PARTS n c table_found at.0 at.1))
+    by_places PLACES CODES n c (subst (λ m. is_found (tails 9 PLACES) (tails 142 CODES) m c ≡ true) e
+    (stands (tails 9 PLACES) (tails 142 CODES) 0 PARTS n c table_found at.0 at.1))
 
 -- ---- The byte of a character
 

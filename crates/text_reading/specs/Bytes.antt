@@ -11,9 +11,13 @@ use Rattle.text_reading.specs.declared.parts.TheConstants.{PARTS}
 abbrev pub ascii_character : ℕ → Option ℕ
 ascii_character byte = if nat_lt byte 0x80 then Some byte else None
 
--- A designator of a part of ISO/IEC 8859: of the parts 1 to 11 and 13 to 16.
+-- A designator of a part of ISO/IEC 8859 that every reader knows: of the parts 1 to 9, 11, 13, 15
+-- and 16. The designators 12 and 16, of the parts 10 and 14, are left out: a reader in most
+-- telephones does not know them.
 abbrev pub is_part : ℕ → Bool
-is_part designator = is_between 3 13 designator || is_between 15 18 designator
+is_part designator =
+    is_between 3 11 designator || (designator == 13) || (designator == 15)
+    || is_between 17 18 designator
 
 -- The character of a byte in a part of ISO/IEC 8859: ASCII, and 96 characters from A0 by the table.
 unfoldable pub part_character : ℕ → ℕ → Option ℕ

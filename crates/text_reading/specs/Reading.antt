@@ -91,7 +91,8 @@ abbrev pub joined : Option (List ℕ) → Option (List ℕ) → Option (List ℕ
 joined (Some front) (Some text) = Some (front ++ text)
 joined front text = None
 
--- A designator that each reader knows: of a part of ISO/IEC 8859, of Shift JIS, or of UTF-8.
+-- A designator that every reader knows: of a part of ISO/IEC 8859 other than 10 and 14, of Shift
+-- JIS, or of UTF-8.
 abbrev pub is_known : ℕ → Bool
 is_known number = is_part number || (number == 20) || (number == 26)
 

@@ -20,11 +20,12 @@ use jisx0208::{kanji_of, shift_jis_of};
 use parts::PARTS;
 use places::PLACES;
 
-/// Returns whether a designator names a part of ISO/IEC 8859: 3 to 13 and 15 to 18.
+/// Returns whether a designator names a part of ISO/IEC 8859 that every reader knows: 3 to 11, 13,
+/// 15, 17 and 18.
 pub fn is_part(designator: u32) -> bool
     ensures { result ≡ is_part designator }
 {
-    matches!(designator, 3..=13 | 15..=18)
+    matches!(designator, 3..=11 | 13 | 15 | 17..=18)
 }
 
 /// Returns the character of a single byte by the designator in force, if the byte has one.

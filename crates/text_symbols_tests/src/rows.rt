@@ -7,7 +7,7 @@
 pub(crate) type Row = (&'static str, usize, usize, Option<u8>, &'static [u8]);
 
 /// Texts after at most one designator.
-pub(crate) static ROWS: [Row; 12] = [
+pub(crate) static ROWS: [Row; 14] = [
     // Kanji: 4 + 8 + 5 * 13.
     (
         "市北前倉東",
@@ -60,6 +60,12 @@ pub(crate) static ROWS: [Row; 12] = [
         Some(26),
         b"\xf0\x9f\x98\x80 OK \xf0\x9f\x98\x80",
     ),
+    // Of ISO/IEC 8859 only part 14, whose designator not every reader knows, has the second letter.
+    // UTF-8: 12 + 4 + 8 + 4 * 8.
+    ("Dŵr", 1, 56, Some(26), b"D\xc5\xb5r"),
+    // A Thai letter, and a space without a break, which not every reader shows after the designator
+    // of part 11. UTF-8: 12 + 4 + 8 + 5 * 8.
+    ("ก\u{a0}", 1, 64, Some(26), b"\xe0\xb8\x81\xc2\xa0"),
     // Shift JIS: 12 + 4 + 8 + 13 * 8, which a Kanji segment would not make less.
     (
         "ﾊﾝｶｸ 全角 ABC",

@@ -4,9 +4,9 @@ use Rattle.text_reading.specs.Bytes.{character_of_byte}
 use Rattle.text_plans.proofs.Sizes.{is_other}
 use Rattle.text_plans.proofs.facts.single_in.Goals as goal
 
-pub returns-else-lane-eq18-clause-found : goal.returns-else-lane-eq18-clause-found
-returns-else-lane-eq18-clause-found c byte h =
-    let other : (c.args.lane == 18) ≡ false = ne_eqb c.args.lane 18 c.if-lane-eq18.false in
+pub returns-else-lane-eq16-clause-found : goal.returns-else-lane-eq16-clause-found
+returns-else-lane-eq16-clause-found c byte h =
+    let other : (c.args.lane == 16) ≡ false = ne_eqb c.args.lane 16 c.if-lane-eq16.false in
     c.byte_of.ensures.found byte
     (subst (λ (f : ℕ → Option ℕ). f byte ≡ Some c.args.c)
     (is_other c.args.lane other ∙ ap character_of_byte (sym c.designator_of.ensures)) h)

@@ -15,7 +15,7 @@ loop-part-init c = (
   λ k below. absurd (omega arith),
   refl,
   c.size_in_shift_jis.ensures,
-  subst (λ (size : ℕ). IsSize 17 c.args.c size) (sym c.len_utf8.ensures.value) (utf8_size c.args.c c.ranges.c.0),
+  subst (λ (size : ℕ). IsSize 15 c.args.c size) (sym c.len_utf8.ensures.value) (utf8_size c.args.c c.ranges.c.0),
   refl,
 )
 
@@ -32,9 +32,9 @@ loop-part-preserved c =
           (λ k h. let ne : k + 1 ≢ c.loop-part.part + 1 = omega arith in rw get_or-set_other (before.1 k h))
           (let lt : c.loop-part.part + 1 < length c.loop-part.sizes = omega (arith, before.0) in rw get_or-set_same size),
       (let ne : 0 ≢ c.loop-part.part + 1 = omega arith in rw get_or-set_other before.2),
-      (let ne : 16 ≢ c.loop-part.part + 1 = omega arith in rw get_or-set_other before.3),
-      (let ne : 17 ≢ c.loop-part.part + 1 = omega arith in rw get_or-set_other before.4),
-      (let ne : 18 ≢ c.loop-part.part + 1 = omega arith in rw get_or-set_other before.5),
+      (let ne : 14 ≢ c.loop-part.part + 1 = omega arith in rw get_or-set_other before.3),
+      (let ne : 15 ≢ c.loop-part.part + 1 = omega arith in rw get_or-set_other before.4),
+      (let ne : 16 ≢ c.loop-part.part + 1 = omega arith in rw get_or-set_other before.5),
     )
 
 pub returns : goal.returns
@@ -45,20 +45,20 @@ returns c = λ lane inside.
           let e : 0 ≡ lane = omega arith in
           subst (λ (k : ℕ). IsSize k c.args.c (get_or c.loop-part.sizes k 0)) e
           (subst (λ (n : ℕ). IsSize 0 c.args.c n) (sym all.2) (first_size c.args.c c.requires))
-      | inr some ↦ elim (cases_lt lane 16) [
+      | inr some ↦ elim (cases_lt lane 14) [
         | inl part ↦
             let e : (lane - 1) + 1 ≡ lane = omega arith in
             subst (λ (k : ℕ). IsSize k c.args.c (get_or c.loop-part.sizes k 0)) e (all.1 (lane - 1) (omega arith))
-        | inr last ↦ elim (cases_lt lane 17) [
+        | inr last ↦ elim (cases_lt lane 15) [
           | inl now ↦
-              let e : 16 ≡ lane = omega arith in subst (λ (k : ℕ). IsSize k c.args.c (get_or c.loop-part.sizes k 0)) e all.3
-          | inr later ↦ elim (cases_lt lane 18) [
+              let e : 14 ≡ lane = omega arith in subst (λ (k : ℕ). IsSize k c.args.c (get_or c.loop-part.sizes k 0)) e all.3
+          | inr later ↦ elim (cases_lt lane 16) [
             | inl now ↦
-                let e : 17 ≡ lane = omega arith in subst (λ (k : ℕ). IsSize k c.args.c (get_or c.loop-part.sizes k 0)) e all.4
+                let e : 15 ≡ lane = omega arith in subst (λ (k : ℕ). IsSize k c.args.c (get_or c.loop-part.sizes k 0)) e all.4
             | inr end ↦
-                let e : 18 ≡ lane = omega arith in
+                let e : 16 ≡ lane = omega arith in
                 subst (λ (k : ℕ). IsSize k c.args.c (get_or c.loop-part.sizes k 0)) e
-                (subst (λ (n : ℕ). IsSize 18 c.args.c n) (sym all.5) (last_size c.args.c c.requires))
+                (subst (λ (n : ℕ). IsSize 16 c.args.c n) (sym all.5) (last_size c.args.c c.requires))
           ]
         ]
       ]

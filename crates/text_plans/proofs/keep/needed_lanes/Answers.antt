@@ -18,10 +18,10 @@ loop-back-preserved c =
     elim c.if-has_dominator.branch [
       | then-has_dominator w ↦
           let h = c.has_dominator.ensures w.if-has_dominator.true in (
-            ap (λ (x : List Bool). length x) w.kept-is ∙ length-set c.loop-back.kept (17 - c.loop-back.back) false ∙ c.loop-back.invariant.0,
-            subst (λ (x : List Bool). AreEnough x 19 c.args.all.now) (sym w.kept-is)
-                (left_out c.loop-back.kept (17 - c.loop-back.back) h.0 c.args.all.now h.1 h.2 h.3 c.loop-back.invariant.1),
+            ap (λ (x : List Bool). length x) w.kept-is ∙ length-set c.loop-back.kept (15 - c.loop-back.back) false ∙ c.loop-back.invariant.0,
+            subst (λ (x : List Bool). AreEnough x 17 c.args.all.now) (sym w.kept-is)
+                (left_out c.loop-back.kept (15 - c.loop-back.back) h.0 c.args.all.now h.1 h.2 h.3 c.loop-back.invariant.1),
           )
       | else-has_dominator w ↦
-          subst (λ (x : List Bool). (length x ≡ 19) × AreEnough x 19 c.args.all.now) (sym w.kept-is) c.loop-back.invariant
+          subst (λ (x : List Bool). (length x ≡ 17) × AreEnough x 17 c.args.all.now) (sym w.kept-is) c.loop-back.invariant
     ]

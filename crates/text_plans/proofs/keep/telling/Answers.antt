@@ -16,13 +16,13 @@ all_front P xs ys h n d inside = subst P (get_or-append xs ys d n inside) (h n d
 all_last : (P : Facts → Type 0) (xs : List Facts) (x : Facts) → All P (xs ++ x ∷ []) → P x
 all_last P xs x h = subst P (get_or-append_seam xs x [] x) (h (length xs) x (omega (arith, length-append xs (x ∷ []))))
 
-even : (to lane : ℕ) (sizes : List ℕ) → to < 19 → lane < 19 → sizes ≡ replicate 19 1 → TakesNoMore to lane sizes
+even : (to lane : ℕ) (sizes : List ℕ) → to < 17 → lane < 17 → sizes ≡ replicate 17 1 → TakesNoMore to lane sizes
 even to lane sizes a b e = rw e (λ some. (λ none. absurd (omega (arith, none, ones 1 to a)), omega (arith, ones 1 to a, ones 1 lane b)))
 
 pub loop-facts-init : goal.loop-facts-init
 loop-facts-init c = (
   λ to lane a b h k d inside. absurd (omega (arith, inside)),
-  λ to lane a b h. even to lane (replicate 19 1) a b refl,
+  λ to lane a b h. even to lane (replicate 17 1) a b refl,
 )
 
 pub loop-facts-preserved : goal.loop-facts-preserved

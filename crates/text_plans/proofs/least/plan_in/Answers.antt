@@ -10,17 +10,17 @@ use Rattle.text_plans.proofs.least.plan_in.Goals as goal
 pub is_too_long-requires-clause-needed : goal.is_too_long-requires-clause-needed
 is_too_long-requires-clause-needed c =
     enough_covered c.needed_lanes-needed.result c.in_ok-telling.telling.items c.args.all.now c.in_ok-telling.ensures
-    (subst (λ (some : List Facts). AreEnough c.needed_lanes-needed.result 19 some) c.deref.ensures.value c.needed_lanes-needed.ensures)
+    (subst (λ (some : List Facts). AreEnough c.needed_lanes-needed.result 17 some) c.deref.ensures.value c.needed_lanes-needed.ensures)
 
 pub plan_of_pairs-requires-clause-needed : goal.plan_of_pairs-requires-clause-needed
 plan_of_pairs-requires-clause-needed c =
     enough_covered c.needed_lanes-needed.result c.in_ok-telling.telling.items c.args.all.now c.in_ok-telling.ensures
-    (subst (λ (some : List Facts). AreEnough c.needed_lanes-needed.result 19 some) c.deref.ensures.value c.needed_lanes-needed.ensures)
+    (subst (λ (some : List Facts). AreEnough c.needed_lanes-needed.result 17 some) c.deref.ensures.value c.needed_lanes-needed.ensures)
 
 pub keep-unmixed-requires-clause-needed : goal.keep-unmixed-requires-clause-needed
 keep-unmixed-requires-clause-needed c =
     enough_covered c.needed_lanes-needed.result c.in_ok-telling.telling.items c.args.all.now c.in_ok-telling.ensures
-    (subst (λ (some : List Facts). AreEnough c.needed_lanes-needed.result 19 some) c.deref.ensures.value c.needed_lanes-needed.ensures)
+    (subst (λ (some : List Facts). AreEnough c.needed_lanes-needed.result 17 some) c.deref.ensures.value c.needed_lanes-needed.ensures)
 
 pub returns-then-is_too_long-clause-none : goal.returns-then-is_too_long-clause-none
 returns-then-is_too_long-clause-none c others written =

@@ -7,11 +7,11 @@ use Rattle.text_plans.proofs.Lists.{list_within}
 use Rattle.text_plans.proofs.row.lane_at.Goals as goal
 
 listed : (rules : Rules) (at : ℕ) → ListsLanes rules → at < rules.count →
-    (get_or rules.lanes at 0 ≡ get_or (kept_up_to rules.kept 17) at 0)
-    × (1 ≤ get_or (kept_up_to rules.kept 17) at 0)
-    × (get_or (kept_up_to rules.kept 17) at 0 ≤ 17)
+    (get_or rules.lanes at 0 ≡ get_or (kept_up_to rules.kept 15) at 0)
+    × (1 ≤ get_or (kept_up_to rules.kept 15) at 0)
+    × (get_or (kept_up_to rules.kept 15) at 0 ≤ 15)
 listed rules at h inside =
-    let w = list_within rules.kept 17 at (omega (arith, inside, h.counted)) in (
+    let w = list_within rules.kept 15 at (omega (arith, inside, h.counted)) in (
       sym (get_or-take rules.count rules.lanes at 0 inside) ∙ ap (λ (x : List ℕ). get_or x at 0) h.listed,
       w.0,
       w.1,

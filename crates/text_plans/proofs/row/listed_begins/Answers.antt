@@ -13,7 +13,7 @@ loop-at-preserved c =
     let rules = c.args.rules.now in
     let facts = c.args.facts.now in
     let row = c.args.row.now in
-    let lanes = kept_up_to rules.kept 17 in
+    let lanes = kept_up_to rules.kept 15 in
     let before = c.loop-at.invariant in
     let lane = c.lane_at-lane.ensures in
     let within : c.loop-at.at < length lanes = omega (arith, c.loop-at-test.true, c.requires.lists.counted) in
@@ -30,15 +30,15 @@ loop-at-preserved c =
 
 pub returns-clause-weights : goal.returns-clause-weights
 returns-clause-weights c lane low high keeps =
-    let w = list_has c.args.rules.now.kept 17 lane low high keeps in
+    let w = list_has c.args.rules.now.kept 15 lane low high keeps in
     subst (λ (l : ℕ). get_or c.loop-at.weights l 0 ≡ begin_least c.args.rules.now c.args.facts.now l (get_or c.args.row.now l no_rest)) w.is
     (c.loop-at.invariant.1 w.place (omega (arith, w.inside, c.requires.lists.counted, c.loop-at-test.false)))
 
 pub returns-clause-switched : goal.returns-clause-switched
 returns-clause-switched c =
     let rules = c.args.rules.now in
-    let all : c.loop-at.at ≡ length (kept_up_to rules.kept 17) = omega (arith, c.requires.lists.counted, c.loop-at-test.false, c.loop-at.auto.at-end) in
+    let all : c.loop-at.at ≡ length (kept_up_to rules.kept 15) = omega (arith, c.requires.lists.counted, c.loop-at-test.false, c.loop-at.auto.at-end) in
     c.loop-at.invariant.2
-    ∙ ap (λ (n : ℕ). switch_over rules c.args.facts.now c.args.row.now (take n (kept_up_to rules.kept 17))) all
-    ∙ ap (λ (x : List ℕ). switch_over rules c.args.facts.now c.args.row.now x) (take-length (kept_up_to rules.kept 17))
-    ∙ over_is rules c.args.facts.now c.args.row.now 17
+    ∙ ap (λ (n : ℕ). switch_over rules c.args.facts.now c.args.row.now (take n (kept_up_to rules.kept 15))) all
+    ∙ ap (λ (x : List ℕ). switch_over rules c.args.facts.now c.args.row.now x) (take-length (kept_up_to rules.kept 15))
+    ∙ over_is rules c.args.facts.now c.args.row.now 15

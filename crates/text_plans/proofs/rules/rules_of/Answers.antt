@@ -15,8 +15,8 @@ returns-clause-rules c = let made : Rules = record {
   designator = c.designator_weight.result;
   start = c.lanes_of-start.result.0;
   kanji_lane = c.lanes_of-start.result.1;
-  kept = replicate 19 false;
-  lanes = replicate 17 0;
+  kept = replicate 17 false;
+  lanes = replicate 15 0;
   count = 0;
 } in record {
   headers = four_headers c.args.version made c.header_of.ensures.has c.header_of-2.ensures.has c.header_of-3.ensures.has c.header_of-4.ensures.has;

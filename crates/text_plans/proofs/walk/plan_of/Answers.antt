@@ -36,7 +36,7 @@ row_before_at rules all rows k h inside =
     subst (λ (m : ℕ). IsRowOf rules (drop m all) (get_or rows (length all - k) [])) e (h.1 (length all - k) within)
 
 value_at : (rules : Rules) (all : List Facts) (rows : List (List Rest)) (k lane : ℕ) (written : Written) (opened : Option Mode) (count value : ℕ) →
-    AreRowsOf rules all rows → k < length all → lane < 19 → IsKeptLane rules.kept lane → opened ≡ written.mode → count ≡ length written.bytes →
+    AreRowsOf rules all rows → k < length all → lane < 17 → IsKeptLane rules.kept lane → opened ≡ written.mode → count ≡ length written.bytes →
     value ≡ open_value (get_or (get_or rows (length all - k) []) lane no_rest) opened count →
     value ≡ open_value (entry rules (drop k all) lane) written.mode (length written.bytes)
 value_at rules all rows k lane written opened count value h inside low keeps mode long is =
