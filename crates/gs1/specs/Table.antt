@@ -100,7 +100,7 @@ components_of_transport n =
     else (if n == 4318 then Needed Set82 1 20 Nothing ∷ []
     else (if is_within 4321 4323 n then Needed Digits 1 1 Flag ∷ []
     else (if (n == 4324) || (n == 4325)
-    then Needed Digits 6 6 Day ∷ Needed Digits 4 4 HourMinute ∷ []
+    then Needed Digits 6 6 Date ∷ Needed Digits 4 4 HourMinute ∷ []
     else (if n == 4326 then Needed Digits 6 6 Day ∷ []
     else (if is_within 4330 4333 n then Needed Digits 6 6 Nothing ∷ Optional Set82 1 1 Hyphen ∷ []
     else [])))))))))

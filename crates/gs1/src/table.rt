@@ -264,7 +264,7 @@ fn of_transport(number: usize) -> &'static [Component]
         ],
         4318 => &[Needed(Set82, 1, 20, Nothing)],
         4321..=4323 => &[Needed(Digits, 1, 1, Flag)],
-        4324 | 4325 => &[Needed(Digits, 6, 6, Day), Needed(Digits, 4, 4, HourMinute)],
+        4324 | 4325 => &[Needed(Digits, 6, 6, Date), Needed(Digits, 4, 4, HourMinute)],
         4326 => &[Needed(Digits, 6, 6, Day)],
         4330..=4333 => &[Needed(Digits, 6, 6, Nothing), Optional(Set82, 1, 1, Hyphen)],
         _ => &[],

@@ -3,7 +3,7 @@ use gs1::{CheckError, Reason, check_element_values, checked_element_string};
 
 /// Texts, and their element strings: examples of the GS1 General Specifications and values that
 /// zint 2.11.1 takes.
-static STRINGS: [(&str, &[u8]); 12] = [
+static STRINGS: [(&str, &[u8]); 14] = [
     (
         "(01)09506000134352(17)261200(10)ABC123",
         b"01095060001343521726120010ABC123",
@@ -25,6 +25,11 @@ static STRINGS: [(&str, &[u8]); 12] = [
         b"8007GB82WEST12345698765432",
     ),
     ("(8008)2612312359(7030)999A", b"80082612312359\x1d7030999A"),
+    (
+        "(00)106141412345678908(4324)2612001200",
+        b"0010614141234567890843242612001200",
+    ),
+    ("(4325)2602002359(4321)1", b"43252602002359\x1d43211"),
 ];
 
 #[test]
@@ -39,7 +44,7 @@ fn writes_allowed_values(rt: HostRuntime) {
 
 /// Values with a fault: the text, the number of the element, the identifier, the place and the
 /// reason. What is expected of a check digit or a pair is what zint 2.11.1 expects.
-static FAULTS: [(&str, usize, usize, usize, Reason); 47] = [
+static FAULTS: [(&str, usize, usize, usize, Reason); 50] = [
     ("(10)123456789012345678901", 0, 10, 20, Reason::TooLong),
     (
         "(10)ABCDEFGHIJABCDEFGHIJABCDEFGHIJ",
@@ -106,6 +111,9 @@ static FAULTS: [(&str, usize, usize, usize, Reason); 47] = [
     ("(11)260230", 0, 11, 4, Reason::WrongDay),
     ("(11)260229", 0, 11, 4, Reason::WrongDay),
     ("(7006)261200", 0, 7006, 4, Reason::WrongDay),
+    ("(4324)2613001200", 0, 4324, 2, Reason::WrongMonth),
+    ("(4325)2602302359", 0, 4325, 4, Reason::WrongDay),
+    ("(4326)261200", 0, 4326, 4, Reason::WrongDay),
     ("(7007)261231260431", 0, 7007, 10, Reason::WrongDay),
     ("(7250)19000229", 0, 7250, 6, Reason::WrongDay),
     ("(7003)2612312459", 0, 7003, 6, Reason::WrongHour),
