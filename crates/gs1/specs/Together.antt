@@ -1,5 +1,5 @@
--- Which elements have to stand together, and which may not (GS1 General Specifications, release 24
--- of 2024, "Mandatory associations of GS1 Application Identifiers" and "Invalid pairs of element
+-- Which elements have to stand together, and which may not (GS1 General Specifications, release 25
+-- of 2025, "Mandatory associations of GS1 Application Identifiers" and "Invalid pairs of element
 -- strings").
 use Rattle.std.specs.Prelude.{ℕ, ◌+◌, Bool, ◌==◌, ◌||◌, nat_lt, if◌then◌else◌, List, [], ◌∷◌, length}
 use Rattle.std.specs.Prelude.{Option, None, Some, is_some}

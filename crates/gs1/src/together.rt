@@ -283,7 +283,7 @@ pub fn check_all(text: &[u8]) -> Result<(), TogetherError>
 
 /// Checks which elements of a text such as `(02)09506000134352(37)20(00)106141412345678908` stand
 /// together: beside each stand those that it needs, and none that it excludes (GS1 General
-/// Specifications, release 24 of 2024, "Mandatory associations" and "Invalid pairs"). The text is
+/// Specifications, release 25 of 2025, "Mandatory associations" and "Invalid pairs"). The text is
 /// cut as `written_element` does; identifiers that are not assigned need and exclude none.
 ///
 /// # Errors

@@ -4,7 +4,7 @@ use gs1_links::{LinkError, PercentError, digital_link, percent_decoded, percent_
 use std::alloc::Global;
 
 /// Texts, domains and links. The first two are examples of the standard, as remembered.
-static LINKS: [(&str, &str, &str); 16] = [
+static LINKS: [(&str, &str, &str); 17] = [
     (
         "(01)09506000134352",
         "id.gs1.org",
@@ -74,6 +74,11 @@ static LINKS: [(&str, &str, &str); 16] = [
         "(8017)950600013435200008(8019)7",
         "x",
         "https://x/8017/950600013435200008/8019/7",
+    ),
+    (
+        "(8014)1987654Ad4X4bL5ttr2310c2K",
+        "x",
+        "https://x/8014/1987654Ad4X4bL5ttr2310c2K",
     ),
     (
         "(8018)950600013435200008",
