@@ -14,6 +14,8 @@ ghost use Rattle.gs1.specs.Elements.{written_elements, bracketed, text_fault, Is
 ghost use Rattle.gs1.specs.Reader.{FindsOnly, AreSymbolData};
 ghost use Rattle.qrcode_bits.specs.Contents.{AreElements};
 
+mod associations;
+mod changes;
 pub mod check;
 mod checked;
 mod checks;
