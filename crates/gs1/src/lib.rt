@@ -38,7 +38,7 @@ pub use checked::{check_element_values, checked_element_string};
 pub use error::Gs1Error;
 use gs1_base::cuts::behind;
 pub use identifiers::right_check_digit;
-pub use read::{brackets, elements_of, string_brackets};
+pub use read::{brackets, elements_of, scanned, string_brackets};
 pub use reason::Reason;
 pub use refusal::CheckError;
 use std::alloc::Global;
