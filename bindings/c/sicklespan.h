@@ -184,7 +184,7 @@ int32_t sicklespan_elements(const void *elements, size_t length, const sicklespa
 
 /*
  * The same of elements as people write them: "(01)09506000134352(10)ABC123". Each element is tested
- * by the table of identifiers of the GS1 General Specifications, release 24 (January 2024): its
+ * by the table of identifiers of the GS1 General Specifications, release 25 (January 2025): its
  * identifier is assigned, and its value has the length, the characters, the check digit, the date,
  * the country and what else the table asks for. Whether elements may stand together is not tested.
  * A value has no `(`, with which the next identifier begins.

@@ -163,8 +163,8 @@ def gs1(content: str, error: Optional[str] = None, version: Optional[int] = None
         min_version: int = 1, max_version: int = 40, boost_error: bool = True) -> Symbol:
     """The best symbol of GS1 elements as people write them: `(01)09506000134352(10)ABC123`.
 
-    Each element is tested by the table of identifiers of the GS1 General Specifications, release 24
-    (January 2024): its identifier is assigned, and its value has the length, the characters, the
+    Each element is tested by the table of identifiers of the GS1 General Specifications, release 25
+    (January 2025): its identifier is assigned, and its value has the length, the characters, the
     check digit, the date, the country and what else the table asks for. Whether elements may stand
     together is not tested.
     """

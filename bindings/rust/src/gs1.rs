@@ -47,7 +47,7 @@ impl Symbol {
     }
 
     /// Returns the best symbol of GS1 elements as people write them. Each element is tested by the
-    /// table of identifiers of the GS1 General Specifications, release 24 (January 2024): its
+    /// table of identifiers of the GS1 General Specifications, release 25 (January 2025): its
     /// identifier is assigned, and its value has the length, the characters, the check digit, the
     /// date, the country and what else the table asks for. Whether elements may stand together is
     /// not tested.

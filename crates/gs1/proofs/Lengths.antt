@@ -54,7 +54,7 @@ three_fits n =
     if_fits (n == 235) _ _ refl
     (if_fits ((n == 240) || (n == 241) || (n == 250) || (n == 251) || (n == 400) || (n == 403)) _ _ refl
     (if_fits (n == 242) _ _ refl
-    (if_fits ((n == 243) || (n == 254) || (n == 420) || is_within 710 716 n) _ _ refl
+    (if_fits ((n == 243) || (n == 254) || (n == 420) || is_within 710 717 n) _ _ refl
     (if_fits (n == 253) _ _ refl
     (if_fits (n == 255) _ _ refl
     (if_fits (n == 401) _ _ refl
@@ -143,7 +143,7 @@ other_fits n =
     if_fits (n == 8010) _ _ refl
     (if_fits (n == 8011) _ _ refl
     (if_fits (n == 8012) _ _ refl
-    (if_fits (n == 8013) _ _ refl
+    (if_fits ((n == 8013) || (n == 8014)) _ _ refl
     (if_fits ((n == 8017) || (n == 8018)) _ _ refl
     (if_fits (n == 8019) _ _ refl
     (if_fits (n == 8020) _ _ refl

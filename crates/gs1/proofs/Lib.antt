@@ -19,6 +19,7 @@ pub mod Allowed
 pub mod AllowedStrings
 pub mod Refused
 pub mod Conflicts
+pub mod ValueChanges
 pub mod Scans
 pub mod Ascii
 pub mod Lengths

@@ -3,7 +3,7 @@
 use Rattle.std.specs.Prelude.{ℕ, ◌+◌, ◌-◌, ◌*◌, ◌%◌, Bool, ◌==◌, ◌&&◌, ◌||◌, not}
 use Rattle.std.specs.Prelude.{nat_le, nat_lt, if◌then◌else◌, List, [], ◌∷◌, length, drop}
 use Rattle.std.specs.Prelude.{slice_index, Option, None, Some}
-use Rattle.std.specs.List.{list_all}
+use Rattle.std.specs.List.{list_all, position_or_len}
 use Rattle.std.specs.Option.{option_or}
 use Rattle.gs1_base.specs.Characters.{is_within, is_decimal_digit, is_hexadecimal}
 use Rattle.gs1.specs.Codes.{is_country, is_country_letters, is_currency}
@@ -14,7 +14,7 @@ use Rattle.gs1.specs.declared.reason.Reason.TheVariants.{WrongCountry, WrongCurr
 use Rattle.gs1.specs.declared.reason.Reason.TheVariants.{WrongPiece, WrongWinding, NoZero}
 use Rattle.gs1.specs.declared.reason.Reason.TheVariants.{OnlyZeros, LeadingZero, WrongEscape}
 use Rattle.gs1.specs.declared.reason.Reason.TheVariants.{NoMinus, WrongMedia, WrongSex}
-use Rattle.gs1.specs.declared.reason.Reason.TheVariants.{WrongSequence, WrongImporter}
+use Rattle.gs1.specs.declared.reason.Reason.TheVariants.{WrongSequence, WrongImporter, WrongCharacter}
 use Rattle.gs1.specs.declared.reason.Fault.{Fault}
 
 -- The fault, if this is wrong.
@@ -183,3 +183,15 @@ escapes_fault place [] = None
 escapes_fault place (c ∷ rest) =
     option_or (fault_if (is_wrong_escape (c ∷ rest)) place WrongEscape)
     (escapes_fault (place + 1) rest)
+
+-- What stands from the first equals sign on.
+abbrev pub padding_of : List ℕ → List ℕ
+padding_of piece = drop (position_or_len (λ c. c == 0x3d) piece) piece
+
+-- Equals signs fill up the last group of four characters, of which two at least are others: they
+-- are at most two, and stand at the end (RFC 4648, sections 4 and 5).
+abbrev pub padding_fault : ℕ → List ℕ → Option Fault
+padding_fault place piece =
+    fault_if (nat_lt 2 (length (padding_of piece))
+    || not (list_all (λ c. c == 0x3d) (padding_of piece)))
+    (place + position_or_len (λ c. c == 0x3d) piece) (WrongCharacter 0x3d)

@@ -7,7 +7,9 @@ use Rattle.gs1.specs.Identifiers.{weighted_sum, with_last}
 use Rattle.gs1_base.specs.Characters.{is_within, is_decimal_digit}
 use Rattle.gs1.specs.Identifiers.{has_right_check_digit, IsRightDigit}
 use Rattle.gs1.specs.Checks.{fault_if, is_digit_at, key_fault, letters_fault}
+use Rattle.std.specs.List.{list_all}
 use Rattle.gs1.specs.declared.reason.Reason.TheVariants.{WrongCheckDigit, WrongCheckPair, WrongIban}
+use Rattle.gs1.specs.declared.reason.Reason.TheVariants.{WrongCharacter}
 use Rattle.gs1.specs.declared.reason.Fault.{Fault}
 
 -- ---- The check digit
@@ -68,9 +70,18 @@ pair_fault place value =
     && (slice_index value (length value - 1) == second_of_pair value)))
     (place + (length value - 2)) (WrongCheckPair (first_of_pair value) (second_of_pair value))
 
--- A model number begins with a GS1 Company Prefix and ends with its pair.
+-- Of digits alone the last one is wrong.
+abbrev pub digits_alone_fault : ℕ → List ℕ → Option Fault
+digits_alone_fault place value =
+    fault_if (list_all is_decimal_digit value) (place + (length value - 1))
+    (WrongCharacter (slice_index value (length value - 1)))
+
+-- A model number begins with a GS1 Company Prefix, ends with its pair and has a character that is
+-- no digit.
 abbrev pub model_fault : ℕ → List ℕ → Option Fault
-model_fault place value = option_or (key_fault place value) (pair_fault place value)
+model_fault place value =
+    option_or (key_fault place value)
+    (option_or (pair_fault place value) (digits_alone_fault place value))
 
 -- ---- International Bank Account Numbers (ISO 13616)
 

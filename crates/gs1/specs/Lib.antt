@@ -8,5 +8,6 @@ pub mod Values
 pub mod Reader
 pub mod Strings
 pub mod Checked
+pub mod Associations
 pub mod Together
 pub mod Read

@@ -1,5 +1,5 @@
 -- The table of GS1 Application Identifiers: the components of the values of each (GS1 General
--- Specifications, release 24 of 2024, "GS1 Application Identifiers in numerical order").
+-- Specifications, release 25 of 2025, "GS1 Application Identifiers in numerical order").
 use Rattle.std.specs.Prelude.{ℕ, ◌/◌, ◌%◌, Bool, true, false, ◌==◌, ◌&&◌, ◌||◌, nat_le}
 use Rattle.std.specs.Prelude.{if◌then◌else◌, List, [], ◌∷◌}
 use Rattle.gs1_base.specs.Characters.{is_within}
@@ -12,7 +12,7 @@ use Rattle.gs1.specs.declared.table.Check.TheVariants.{Country, CountryOrAny, Co
 use Rattle.gs1.specs.declared.table.Check.TheVariants.{Currency, Flag, Piece, Winding, Zero}
 use Rattle.gs1.specs.declared.table.Check.TheVariants.{Nonzero, NoLeadingZero, Escapes, Latitude}
 use Rattle.gs1.specs.declared.table.Check.TheVariants.{Longitude, Hyphen, Media, Sex, Sequence}
-use Rattle.gs1.specs.declared.table.Check.TheVariants.{Iban, Importer}
+use Rattle.gs1.specs.declared.table.Check.TheVariants.{Iban, Importer, Padding}
 use Rattle.gs1.specs.declared.table.Component.{Component}
 use Rattle.gs1.specs.declared.table.Component.TheVariants.{Needed, Optional}
 
@@ -64,7 +64,7 @@ components_of_three n =
     else (if (n == 240) || (n == 241) || (n == 250) || (n == 251) || (n == 400) || (n == 403)
     then Needed Set82 1 30 Nothing ∷ []
     else (if n == 242 then Needed Digits 1 6 Nothing ∷ []
-    else (if (n == 243) || (n == 254) || (n == 420) || is_within 710 716 n
+    else (if (n == 243) || (n == 254) || (n == 420) || is_within 710 717 n
     then Needed Set82 1 20 Nothing ∷ []
     else (if n == 253 then Needed Digits 13 13 CheckDigit ∷ Optional Set82 1 17 Nothing ∷ []
     else (if n == 255 then Needed Digits 13 13 CheckDigit ∷ Optional Digits 1 12 Nothing ∷ []
@@ -100,7 +100,7 @@ components_of_transport n =
     else (if n == 4318 then Needed Set82 1 20 Nothing ∷ []
     else (if is_within 4321 4323 n then Needed Digits 1 1 Flag ∷ []
     else (if (n == 4324) || (n == 4325)
-    then Needed Digits 6 6 Day ∷ Needed Digits 4 4 HourMinute ∷ []
+    then Needed Digits 6 6 Date ∷ Needed Digits 4 4 HourMinute ∷ []
     else (if n == 4326 then Needed Digits 6 6 Day ∷ []
     else (if is_within 4330 4333 n then Needed Digits 6 6 Nothing ∷ Optional Set82 1 1 Hyphen ∷ []
     else [])))))))))
@@ -167,12 +167,12 @@ components_of_other n =
     if n == 8010 then Needed Set39 1 30 Key ∷ []
     else (if n == 8011 then Needed Digits 1 12 NoLeadingZero ∷ []
     else (if n == 8012 then Needed Set82 1 20 Nothing ∷ []
-    else (if n == 8013 then Needed Set82 1 25 Model ∷ []
+    else (if (n == 8013) || (n == 8014) then Needed Set82 1 25 Model ∷ []
     else (if (n == 8017) || (n == 8018) then Needed Digits 18 18 CheckDigit ∷ []
     else (if n == 8019 then Needed Digits 1 10 Nothing ∷ []
     else (if n == 8020 then Needed Set82 1 25 Nothing ∷ []
     else (if n == 8026 then Needed Digits 14 14 CheckDigit ∷ Needed Digits 4 4 Piece ∷ []
-    else (if n == 8030 then Needed Base64 1 90 Nothing ∷ []
+    else (if n == 8030 then Needed Base64 1 90 Padding ∷ []
     else (if (n == 8110) || (n == 8112) || (n == 8200) then Needed Set82 1 70 Nothing ∷ []
     else (if n == 8111 then Needed Digits 4 4 Nothing ∷ []
     else []))))))))))

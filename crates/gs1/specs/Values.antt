@@ -10,8 +10,8 @@ use Rattle.gs1.specs.Checks.{fault_if, two_digits, decimal_at, date_fault, long_
 use Rattle.gs1.specs.Checks.{hour_minute_fault, minute_fault, second_fault, country_fault}
 use Rattle.gs1.specs.Checks.{country_or_any_fault, letters_fault, currency_fault, flag_fault}
 use Rattle.gs1.specs.Checks.{piece_count_fault, winding_fault, zero_fault, nonzero_fault}
-use Rattle.gs1.specs.Checks.{leading_zero_fault, escapes_fault, coordinate_fault, minus_fault}
-use Rattle.gs1.specs.Checks.{media_fault, sex_fault, sequence_fault, importer_fault, key_fault}
+use Rattle.gs1.specs.Checks.{leading_zero_fault, escapes_fault, padding_fault, coordinate_fault}
+use Rattle.gs1.specs.Checks.{minus_fault, media_fault, sex_fault, sequence_fault, importer_fault, key_fault}
 use Rattle.gs1.specs.Keys.{check_digit_fault, model_fault, iban_fault}
 use Rattle.gs1.specs.Table.{components, characters_of, least_of, greatest_of, check_of, is_optional}
 use Rattle.gs1.specs.Elements.{Element, is_identifier, is_opening, written_elements}
@@ -27,7 +27,7 @@ use Rattle.gs1.specs.declared.table.Check.TheVariants.{Country, CountryOrAny, Co
 use Rattle.gs1.specs.declared.table.Check.TheVariants.{Currency, Flag, Piece, Winding, Zero}
 use Rattle.gs1.specs.declared.table.Check.TheVariants.{Nonzero, NoLeadingZero, Escapes, Latitude}
 use Rattle.gs1.specs.declared.table.Check.TheVariants.{Longitude, Hyphen, Media, Sex, Sequence}
-use Rattle.gs1.specs.declared.table.Check.TheVariants.{Iban, Importer}
+use Rattle.gs1.specs.declared.table.Check.TheVariants.{Iban, Importer, Padding}
 use Rattle.gs1.specs.declared.table.Component.{Component}
 use Rattle.gs1.specs.declared.refusal.CheckError.{CheckError}
 use Rattle.gs1.specs.declared.refusal.CheckError.TheVariants.{NoElements, InvalidIdentifier}
@@ -79,6 +79,7 @@ check_fault Zero place piece = zero_fault place piece
 check_fault Nonzero place piece = nonzero_fault place piece
 check_fault NoLeadingZero place piece = leading_zero_fault place piece
 check_fault Escapes place piece = escapes_fault place piece
+check_fault Padding place piece = padding_fault place piece
 check_fault Latitude place piece = coordinate_fault 18 WrongLatitude place piece
 check_fault Longitude place piece = coordinate_fault 36 WrongLongitude place piece
 check_fault Hyphen place piece = minus_fault place piece

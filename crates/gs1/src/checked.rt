@@ -20,7 +20,7 @@ use std::alloc::Global;
 /// `element_string` does, if the table of identifiers allows each element: its identifier is
 /// assigned, and its value has the components of this identifier, each of the right characters and
 /// length, with the right check digit, a date that there is, and so on (GS1 General Specifications,
-/// release 24 of 2024, "GS1 Application Identifier definitions").
+/// release 25 of 2025, "GS1 Application Identifier definitions").
 ///
 /// # Errors
 ///

@@ -1,18 +1,19 @@
 //! What components have to satisfy, but for dates.
-ghost use Rattle.std.specs.Prelude.{◌≡◌, ◌<◌, ◌+◌, ◌^◌};
+ghost use Rattle.std.specs.Prelude.{◌≡◌, ◌<◌, ◌+◌, ◌^◌, ◌==◌};
+ghost use Rattle.std.specs.List.{list_all};
 ghost use Rattle.std.specs.Result.{result_err};
 ghost use Rattle.gs1.specs.Checks.{three_digits, country_fault, country_or_any_fault, letters_fault};
 ghost use Rattle.gs1.specs.Checks.{currency_fault, flag_fault, piece_count_fault, winding_fault};
 ghost use Rattle.gs1.specs.Checks.{zero_fault, nonzero_fault, leading_zero_fault, are_zeros};
 ghost use Rattle.gs1.specs.Checks.{coordinate_fault, minus_fault, media_fault, sex_fault};
 ghost use Rattle.gs1.specs.Checks.{sequence_fault, importer_fault, is_importer, key_fault};
-ghost use Rattle.gs1.specs.Checks.{escapes_fault, is_wrong_escape, is_digit_at};
+ghost use Rattle.gs1.specs.Checks.{escapes_fault, is_wrong_escape, is_digit_at, padding_fault};
 ghost use Rattle.gs1_base.specs.Characters.{is_hexadecimal};
 
 use crate::codes::{is_country, is_country_letters, is_currency};
 use crate::dates::{decimal_at, two_digits};
 use crate::reason::{Fault, Reason, fault_if};
-use gs1_base::cuts::{behind, byte};
+use gs1_base::cuts::{behind, byte, first_of};
 
 /// Returns the number that three digits write.
 fn three_digits(piece: &[u8]) -> usize
@@ -217,4 +218,22 @@ pub(crate) fn check_escapes(place: usize, piece: &[u8]) -> Result<(), Fault>
         fault_if(wrong, place + at, Reason::WrongEscape)?;
     }
     Ok(())
+}
+
+/// Returns whether all bytes are equals signs.
+fn are_equals_signs(piece: &[u8]) -> bool
+    ensures { result ≡ list_all (λ c. c == 0x3d) piece.now }
+{
+    piece.iter().all(|c| *c == b'=')
+}
+
+/// Checks that equals signs stand at the end alone, and that they are at most two.
+pub(crate) fn check_padding(place: usize, piece: &[u8]) -> Result<(), Fault>
+    requires { place < 2 ^ 63 }
+    ensures { result_err result ≡ padding_fault place piece.now }
+{
+    let at = first_of(piece, b'=');
+    let padding = &piece[at..];
+    let wrong = 2 < padding.len() || !are_equals_signs(padding);
+    fault_if(wrong, place + at, Reason::WrongCharacter { byte: b'=' })
 }

@@ -3,11 +3,13 @@ ghost use Rattle.std.specs.Prelude.{◌≡◌, ◌+◌, ◌-◌, ◌<◌, ◌^�
 ghost use Rattle.std.specs.Result.{result_err};
 ghost use Rattle.gs1.specs.Keys.{right_digit, check_digit_fault, character_value, pair_sum};
 ghost use Rattle.gs1.specs.Keys.{pair_fault, model_fault, remainder_more, remainder, iban_fault};
+ghost use Rattle.gs1.specs.Keys.{digits_alone_fault};
 
 use crate::checks::{check_key, check_letters, is_digit_at};
 use crate::dates::decimal_at;
 use crate::identifiers::{has_right_check_digit, weighted_sum};
 use crate::reason::{Fault, Reason, fault_if};
+use gs1_base::characters::are_digits;
 use gs1_base::cuts::{behind, byte};
 
 /// The weights of a pair of check characters, from the right.
@@ -83,6 +85,18 @@ fn check_pair(place: usize, value: &[u8]) -> Result<(), Fault>
     fault_if(!right, place + end, reason)
 }
 
+/// Checks that a value has a character that is no digit.
+fn check_some_letter(place: usize, value: &[u8]) -> Result<(), Fault>
+    requires { place < 2 ^ 63 }
+    ensures { result_err result ≡ digits_alone_fault place value.now }
+{
+    let last = value.len().saturating_sub(1);
+    let reason = Reason::WrongCharacter {
+        byte: byte(value, last),
+    };
+    fault_if(are_digits(value), place + last, reason)
+}
+
 /// Checks a model number.
 pub(crate) fn check_model(place: usize, value: &[u8]) -> Result<(), Fault>
     requires place { place < 2 ^ 63 }
@@ -90,7 +104,8 @@ pub(crate) fn check_model(place: usize, value: &[u8]) -> Result<(), Fault>
     ensures { result_err result ≡ model_fault place value.now }
 {
     check_key(place, value)?;
-    check_pair(place, value)
+    check_pair(place, value)?;
+    check_some_letter(place, value)
 }
 
 /// Returns the remainder modulo 97 with one character more.

@@ -14,6 +14,8 @@ ghost use Rattle.gs1.specs.Elements.{written_elements, bracketed, text_fault, Is
 ghost use Rattle.gs1.specs.Reader.{FindsOnly, AreSymbolData};
 ghost use Rattle.qrcode_bits.specs.Contents.{AreElements};
 
+mod associations;
+mod changes;
 pub mod check;
 mod checked;
 mod checks;
@@ -36,7 +38,7 @@ pub use checked::{check_element_values, checked_element_string};
 pub use error::Gs1Error;
 use gs1_base::cuts::behind;
 pub use identifiers::right_check_digit;
-pub use read::{brackets, elements_of, string_brackets};
+pub use read::{brackets, elements_of, scanned, string_brackets};
 pub use reason::Reason;
 pub use refusal::CheckError;
 use std::alloc::Global;

@@ -3,18 +3,20 @@ ghost use Rattle.std.specs.Prelude.{◌≡◌, ◌++◌, ◌∷◌, map, IfOk, O
 ghost use Rattle.gs1.specs.Elements.{bracketed};
 ghost use Rattle.gs1.specs.Reader.{FindsOnly};
 ghost use Rattle.gs1.specs.Checked.{AreAllowedElements};
-ghost use Rattle.gs1.specs.Read.{scanned, IsRefusedScan, WritesFirst};
+ghost use Rattle.gs1.specs.Read.{without_symbology, without_separator, scanned};
+ghost use Rattle.gs1.specs.Read.{IsRefusedScan, WritesFirst};
 
 use crate::checked::check_element_values;
 use crate::refusal::CheckError;
 use crate::strings::{Element, behind_first, first_element};
+use crate::write::GROUP_SEPARATOR;
+use gs1_base::cuts::byte;
 use std::alloc::{AllocError, Global};
 
-/// Returns what a scanner gives without `]Q3` in front, the symbology identifier of a QR Code
-/// symbol of GS1 elements.
-#[tactic(auto, unfolding(crate::specs::Read::scanned))]
-fn scanned(bytes: &[u8]) -> &[u8]
-    ensures { result.now ≡ scanned bytes.now }
+/// Returns bytes without `]Q3` in front.
+#[tactic(auto, unfolding(crate::specs::Read::without_symbology))]
+fn without_symbology(bytes: &[u8]) -> &[u8]
+    ensures { result.now ≡ without_symbology bytes.now }
 {
     match bytes {
         [b']', b'Q', b'3', rest @ ..] => rest,
@@ -22,14 +24,34 @@ fn scanned(bytes: &[u8]) -> &[u8]
     }
 }
 
+/// Returns bytes without a separator at the end.
+#[tactic(auto, unfolding(crate::specs::Read::without_separator))]
+fn without_separator(bytes: &[u8]) -> &[u8]
+    ensures { result.now ≡ without_separator bytes.now }
+{
+    let last = bytes.len().saturating_sub(1);
+    if byte(bytes, last) == GROUP_SEPARATOR {
+        return &bytes[..last];
+    }
+    bytes
+}
+
+/// Returns what a scanner gives without its marks: `]Q3` in front, the symbology identifier of a QR
+/// Code symbol of GS1 elements, and one separator 1D (hex) at the end.
+pub fn scanned(bytes: &[u8]) -> &[u8]
+    ensures { result.now ≡ scanned bytes.now }
+{
+    without_separator(without_symbology(bytes))
+}
+
 /// Returns the elements of what a scanner gives, such as `]Q3010950600013435210ABC`, with or
-/// without the `]Q3`: those that a reader finds, in their order, if the table of identifiers allows
-/// each. Nothing is allocated before all is tested.
+/// without the marks that `scanned` leaves out: those that a reader finds, in their order, if the
+/// table of identifiers allows each. Nothing is allocated before all is tested.
 ///
 /// # Errors
 ///
-/// Those of `check_element_values`, which speak of the bytes after `]Q3`, and `OutOfMemory` if it
-/// has none and an allocation failed.
+/// Those of `check_element_values`, which speak of the bytes without the marks, and `OutOfMemory`
+/// if it has none and an allocation failed.
 pub fn elements_of<'a>(alloc: Global, bytes: &'a [u8]) -> Result<Vec<Element<'a>>, CheckError>
     ensures found { IfOk result (λ elements. FindsOnly (scanned bytes.now)
         (map (λ e. record { identifier = e.identifier.now; value = e.value.now }) elements.items)) }

@@ -11,7 +11,7 @@ use Characters::{Base64, Capitals, Digits, Set39, Set82};
 use Check::{
     CheckDigit, Country, CountryLetters, CountryOrAny, Currency, Date, Day, Escapes, Flag, Hour,
     HourMinute, Hyphen, Iban, Importer, Key, Latitude, LongDay, Longitude, Media, Minute, Model,
-    NoLeadingZero, Nonzero, Nothing, Piece, Second, Sequence, Sex, Winding, Zero,
+    NoLeadingZero, Nonzero, Nothing, Padding, Piece, Second, Sequence, Sex, Winding, Zero,
 };
 use Component::{Needed, Optional};
 
@@ -77,6 +77,8 @@ pub(crate) enum Check {
     NoLeadingZero,
     /// Each percent sign begins an escape.
     Escapes,
+    /// Equals signs stand at the end alone, at most two.
+    Padding,
     /// A latitude.
     Latitude,
     /// A longitude.
@@ -194,7 +196,7 @@ fn of_three(number: usize) -> &'static [Component]
         235 => &[Needed(Set82, 1, 28, Nothing)],
         240 | 241 | 250 | 251 | 400 | 403 => &[Needed(Set82, 1, 30, Nothing)],
         242 => &[Needed(Digits, 1, 6, Nothing)],
-        243 | 254 | 420 | 710..=716 => &[Needed(Set82, 1, 20, Nothing)],
+        243 | 254 | 420 | 710..=717 => &[Needed(Set82, 1, 20, Nothing)],
         253 => &[
             Needed(Digits, 13, 13, CheckDigit),
             Optional(Set82, 1, 17, Nothing),
@@ -264,7 +266,7 @@ fn of_transport(number: usize) -> &'static [Component]
         ],
         4318 => &[Needed(Set82, 1, 20, Nothing)],
         4321..=4323 => &[Needed(Digits, 1, 1, Flag)],
-        4324 | 4325 => &[Needed(Digits, 6, 6, Day), Needed(Digits, 4, 4, HourMinute)],
+        4324 | 4325 => &[Needed(Digits, 6, 6, Date), Needed(Digits, 4, 4, HourMinute)],
         4326 => &[Needed(Digits, 6, 6, Day)],
         4330..=4333 => &[Needed(Digits, 6, 6, Nothing), Optional(Set82, 1, 1, Hyphen)],
         _ => &[],
@@ -379,7 +381,7 @@ fn of_other(number: usize) -> &'static [Component]
         8010 => &[Needed(Set39, 1, 30, Key)],
         8011 => &[Needed(Digits, 1, 12, NoLeadingZero)],
         8012 => &[Needed(Set82, 1, 20, Nothing)],
-        8013 => &[Needed(Set82, 1, 25, Model)],
+        8013 | 8014 => &[Needed(Set82, 1, 25, Model)],
         8017 | 8018 => &[Needed(Digits, 18, 18, CheckDigit)],
         8019 => &[Needed(Digits, 1, 10, Nothing)],
         8020 => &[Needed(Set82, 1, 25, Nothing)],
@@ -387,7 +389,7 @@ fn of_other(number: usize) -> &'static [Component]
             Needed(Digits, 14, 14, CheckDigit),
             Needed(Digits, 4, 4, Piece),
         ],
-        8030 => &[Needed(Base64, 1, 90, Nothing)],
+        8030 => &[Needed(Base64, 1, 90, Padding)],
         8110 | 8112 | 8200 => &[Needed(Set82, 1, 70, Nothing)],
         8111 => &[Needed(Digits, 4, 4, Nothing)],
         _ => &[],

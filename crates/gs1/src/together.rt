@@ -3,11 +3,12 @@ ghost use Rattle.std.specs.Prelude.{◌≡◌, ◌+◌};
 ghost use Rattle.std.specs.Result.{result_err};
 ghost use Rattle.gs1.specs.Elements.{element_of, elements_behind};
 ghost use Rattle.gs1.specs.Values.{number_of_identifier};
-ghost use Rattle.gs1.specs.Together.{needed, needed_by_short, needed_by_long, also_needed};
-ghost use Rattle.gs1.specs.Together.{barred, is_among, first_among};
+ghost use Rattle.gs1.specs.Together.{is_among, first_among, point_fault};
 ghost use Rattle.gs1.specs.Together.{missing_fault, barred_fault, element_conflict};
 ghost use Rattle.gs1.specs.Together.{first_conflict, text_conflict};
 
+use crate::associations::{also_needed, barred, needed};
+use crate::changes::check_changes;
 use crate::values::number_of;
 use gs1_base::cuts::{behind, first_of};
 use thiserror::Error;
@@ -36,101 +37,6 @@ pub enum TogetherError {
         identifier: usize,
         other: usize,
     },
-}
-
-/// Returns the ranges of identifiers of which one has to stand beside this one, if any.
-#[tactic(auto, unfolding(crate::specs::Together::needed))]
-fn needed(number: usize) -> &'static [(usize, usize)]
-    ensures { result.now ≡ needed number }
-{
-    if number < 1000 {
-        return needed_by_short(number);
-    }
-    needed_by_long(number)
-}
-
-/// Returns the same for an identifier of two or three digits.
-#[tactic(auto, unfolding(crate::specs::Together::needed_by_short))]
-fn needed_by_short(number: usize) -> &'static [(usize, usize)]
-    ensures { result.now ≡ needed_by_short number }
-{
-    match number {
-        2 => &[(37, 37)],
-        10 | 11 | 13 | 15 | 16 | 20 => &[(1, 3), (8006, 8006), (8026, 8026)],
-        12 | 415 => &[(8020, 8020)],
-        17 => &[(1, 3), (255, 255), (8006, 8006), (8026, 8026)],
-        21 => &[(1, 1), (3, 3), (8006, 8006)],
-        22 | 235 | 243 => &[(1, 1)],
-        30 => &[(1, 2)],
-        37 | 403 => &[(0, 0)],
-        240..=242 | 422..=427 | 710..=716 => &[(1, 3), (8006, 8006), (8026, 8026)],
-        250 | 251 => &[(1, 1), (8006, 8006)],
-        254 => &[(414, 414)],
-        _ => &[],
-    }
-}
-
-/// Returns the same for an identifier of four digits.
-#[tactic(auto, unfolding(crate::specs::Together::needed_by_long))]
-fn needed_by_long(number: usize) -> &'static [(usize, usize)]
-    ensures { result.now ≡ needed_by_long number }
-{
-    match number {
-        3100..=3699 => &[(0, 3), (8006, 8006), (8026, 8026)],
-        3900..=3909 => &[(255, 255), (8020, 8020)],
-        3910..=3919 => &[(8020, 8020)],
-        3920..=3939 | 8001 | 8200 => &[(1, 1)],
-        3940..=3943 | 8111 => &[(255, 255)],
-        4300..=4326 => &[(0, 0)],
-        7001..=7011 | 8008 => &[(1, 3), (8006, 8006), (8026, 8026)],
-        7020..=7022 => &[(1, 1), (8006, 8006)],
-        7230..=7239 => &[(1, 1), (8004, 8004)],
-        8005 => &[(1, 2)],
-        8011 => &[(8010, 8010)],
-        8019 => &[(8017, 8018)],
-        8020 => &[(415, 415)],
-        _ => &[],
-    }
-}
-
-/// Returns further ranges of identifiers of which one has to stand beside this one, if any.
-#[tactic(auto, unfolding(crate::specs::Together::also_needed))]
-fn also_needed(number: usize) -> &'static [(usize, usize)]
-    ensures { result.now ≡ also_needed number }
-{
-    match number {
-        37 => &[(2, 2), (8026, 8026)],
-        250 => &[(21, 21)],
-        427 => &[(422, 422)],
-        3920..=3939 => &[(30, 30), (3100, 3299), (3500, 3699)],
-        7004 => &[(10, 10)],
-        7022 => &[(7021, 7021)],
-        _ => &[],
-    }
-}
-
-/// Returns the ranges of identifiers that may not stand beside this one.
-#[tactic(auto, unfolding(crate::specs::Together::barred))]
-fn barred(number: usize) -> &'static [(usize, usize)]
-    ensures { result.now ≡ barred number }
-{
-    match number {
-        1 => &[(2, 2), (37, 37), (255, 255)],
-        2 => &[(1, 1), (3, 3), (255, 255)],
-        3 => &[(2, 2)],
-        21 => &[(235, 235)],
-        235 => &[(21, 21)],
-        255 => &[(1, 2), (415, 415), (8006, 8006), (8020, 8020), (8026, 8026)],
-        420 => &[(421, 421)],
-        421 => &[(420, 420), (4307, 4307)],
-        422..=425 => &[(426, 426)],
-        426 => &[(422, 425)],
-        3900..=3909 => &[(3910, 3919)],
-        3910..=3919 => &[(3900, 3909)],
-        3920..=3929 => &[(3930, 3939)],
-        3930..=3939 => &[(3920, 3929)],
-        _ => &[],
-    }
 }
 
 /// Returns whether a number is in one of the ranges.
@@ -240,6 +146,23 @@ fn check_barred<E: ElementList>(
     }
 }
 
+/// Checks that the same measure, amount or price is not there with its decimal point elsewhere.
+#[tactic(auto, unfolding(crate::specs::Together::point_fault))]
+fn check_point<E: ElementList>(
+    all: &E,
+    element: usize,
+    identifier: usize,
+) -> Result<(), TogetherError>
+    ensures { result_err result ≡ point_fault (E.elements all.now) element identifier }
+{
+    if !matches!(identifier, 3100..=3699 | 3900..=3959) {
+        return Ok(());
+    }
+    let first = 10 * (identifier / 10);
+    let elsewhere = [(first, identifier - 1), (identifier + 1, first + 9)];
+    check_barred(&elsewhere, all, element, identifier)
+}
+
 /// Checks what has to stand, and what may not stand, beside an element of this identifier.
 pub fn check_beside<E: ElementList>(
     all: &E,
@@ -250,7 +173,8 @@ pub fn check_beside<E: ElementList>(
 {
     check_needed(needed(identifier), all, element, identifier)?;
     check_needed(also_needed(identifier), all, element, identifier)?;
-    check_barred(barred(identifier), all, element, identifier)
+    check_barred(barred(identifier), all, element, identifier)?;
+    check_point(all, element, identifier)
 }
 
 /// Checks what has to stand, and what may not stand, beside an element of a text.
@@ -283,14 +207,17 @@ pub fn check_all(text: &[u8]) -> Result<(), TogetherError>
 
 /// Checks which elements of a text such as `(02)09506000134352(37)20(00)106141412345678908` stand
 /// together: beside each stand those that it needs, and none that it excludes (GS1 General
-/// Specifications, release 24 of 2024, "Mandatory associations" and "Invalid pairs"). The text is
-/// cut as `written_element` does; identifiers that are not assigned need and exclude none.
+/// Specifications, release 25 of 2025, "Mandatory associations" and "Invalid pairs"). The text is
+/// cut as `written_element` does; identifiers that are not assigned need and exclude none. An
+/// identifier that stands more than once has one value.
 ///
 /// # Errors
 ///
 /// `TextTooLong` if the text has more than 11815 bytes. Else the first fault of the first element
 /// that has one: `MissingElement` if none of those that it needs is there, and
-/// `ConflictingElement`, with the number of the first that it excludes.
+/// `ConflictingElement`, with the number of the first that it excludes. Else `ConflictingElement`
+/// for the first element whose identifier stands once more after it with another value, with the
+/// number of the first such element.
 pub fn check_together(text: &str) -> Result<(), TogetherError>
     ensures { result_err result ≡ text_conflict text.now }
 {
@@ -298,5 +225,6 @@ pub fn check_together(text: &str) -> Result<(), TogetherError>
     if LONGEST_TEXT < text.len() {
         return Err(TogetherError::TextTooLong);
     }
-    check_all(behind(text, 0))
+    check_all(behind(text, 0))?;
+    check_changes(behind(text, 0))
 }

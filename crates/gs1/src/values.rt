@@ -13,8 +13,8 @@ use crate::check::is_identifier;
 use crate::checks::{
     check_coordinate, check_country, check_country_or_any, check_currency, check_escapes,
     check_flag, check_importer, check_key, check_leading_zero, check_letters, check_media,
-    check_minus, check_nonzero, check_piece_count, check_sequence, check_sex, check_winding,
-    check_zero,
+    check_minus, check_nonzero, check_padding, check_piece_count, check_sequence, check_sex,
+    check_winding, check_zero,
 };
 use crate::dates::{
     check_date, check_hour, check_hour_minute, check_long_date, check_minute, check_second,
@@ -92,6 +92,7 @@ fn check(check: Check, place: usize, piece: &[u8]) -> Result<(), Fault>
         Check::Nonzero => check_nonzero(place, piece),
         Check::NoLeadingZero => check_leading_zero(place, piece),
         Check::Escapes => check_escapes(place, piece),
+        Check::Padding => check_padding(place, piece),
         Check::Latitude => check_coordinate(18, Reason::WrongLatitude, place, piece),
         Check::Longitude => check_coordinate(36, Reason::WrongLongitude, place, piece),
         Check::Hyphen => check_minus(place, piece),

@@ -8,7 +8,8 @@ use Rattle.std.proofs.lemmas.List.Elements.{All-nil, All-cons, All-head, All-tai
 use Rattle.std.proofs.lemmas.List.Elements.{All-contains_itself}
 use Rattle.std.proofs.lemmas.List.Folds.{list_any_at}
 use Rattle.gs1.specs.Elements.{Element}
-use Rattle.gs1.specs.Together.{is_among, first_among, needed, also_needed, barred, missing_fault, barred_fault}
+use Rattle.gs1.specs.Associations.{needed, also_needed, barred}
+use Rattle.gs1.specs.Together.{is_among, first_among, missing_fault, barred_fault, has_point, elsewhere, point_fault}
 use Rattle.gs1.specs.Together.{element_conflict, first_conflict}
 use Rattle.gs1.specs.declared.together.TogetherError.TheVariants.{MissingElement, ConflictingElement}
 use Rattle.gs1.proofs.Allowed.{none_mapped}
@@ -87,14 +88,25 @@ no_barred ranges xs ys m n i same none =
 or_none : {X : Type 0} (a b : Option X) → a ≡ None → b ≡ None → option_or a b ≡ None
 or_none a b first second = rw first second
 
+no_point : (xs ys : List Element) (m n i : ℕ) → HaveSame xs ys → point_fault xs m i ≡ None → point_fault ys n i ≡ None
+unfolding point_fault
+no_point xs ys m n i same none =
+    elim (has_point i) as (λ b. cond b (barred_fault (elsewhere i) xs m i) None ≡ None →
+    cond b (barred_fault (elsewhere i) ys n i) None ≡ None) [
+      | true ↦ λ h. no_barred (elsewhere i) xs ys m n i same h
+      | false ↦ λ h. refl
+    ] none
+
 no_conflict : (xs ys : List Element) (m n i : ℕ) → HaveSame xs ys → element_conflict xs m i ≡ None →
     element_conflict ys n i ≡ None
 no_conflict xs ys m n i same none =
     let first = neither (missing_fault (needed i) xs m i) _ none in
-    let second = neither (missing_fault (also_needed i) xs m i) (barred_fault (barred i) xs m i) first.1 in
+    let second = neither (missing_fault (also_needed i) xs m i) _ first.1 in
+    let third = neither (barred_fault (barred i) xs m i) (point_fault xs m i) second.1 in
     or_none (missing_fault (needed i) ys n i) _ (no_missing (needed i) xs ys m n i same first.0)
-    (or_none (missing_fault (also_needed i) ys n i) (barred_fault (barred i) ys n i)
-    (no_missing (also_needed i) xs ys m n i same second.0) (no_barred (barred i) xs ys m n i same second.1))
+    (or_none (missing_fault (also_needed i) ys n i) _ (no_missing (also_needed i) xs ys m n i same second.0)
+    (or_none (barred_fault (barred i) ys n i) (point_fault ys n i)
+    (no_barred (barred i) xs ys m n i same third.0) (no_point xs ys m n i same third.1)))
 
 -- An element has no conflict among all.
 abbrev HasNone : List Element → Element → Type 0
@@ -145,13 +157,21 @@ among_numbers ranges n (x ∷ xs) (y ∷ ys) e =
     ∙ ap (cond (is_among ranges (number y)) (Some n))
     (among_numbers ranges (n + 1) xs ys (same_tail (number x) (number y) (map number xs) (map number ys) e))
 
+same_point : (all others : List Element) (n i : ℕ) → map number all ≡ map number others →
+    point_fault all n i ≡ point_fault others n i
+unfolding point_fault
+same_point all others n i e =
+    ap (λ o. cond (has_point i) (option_map (λ other. ConflictingElement n i other) o) None)
+    (among_numbers (elsewhere i) 0 all others e)
+
 conflict_numbers : (all others : List Element) (n i : ℕ) → map number all ≡ map number others →
     element_conflict all n i ≡ element_conflict others n i
 conflict_numbers all others n i e =
     let first = among_numbers (needed i) 0 all others e in
     let second = among_numbers (also_needed i) 0 all others e in
     let third = among_numbers (barred i) 0 all others e in
-    rw (first, second, third) refl
+    let fourth = same_point all others n i e in
+    rw (first, second, third, fourth) refl
 
 first_numbers : (all others : List Element) (n : ℕ) (xs ys : List Element) → map number all ≡ map number others →
     map number xs ≡ map number ys → first_conflict all n xs ≡ first_conflict others n ys

@@ -21,7 +21,7 @@ use Rattle.gs1_links.specs.declared.link_error.LinkError.TheVariants.{RepeatedEl
 abbrev pub keys : List (ℕ × ℕ)
 keys =
     (0, 1) ∷ (253, 253) ∷ (255, 255) ∷ (401, 402) ∷ (414, 415) ∷ (417, 417) ∷ (8003, 8004)
-    ∷ (8006, 8006) ∷ (8010, 8010) ∷ (8013, 8013) ∷ (8017, 8018) ∷ []
+    ∷ (8006, 8006) ∷ (8010, 8010) ∷ (8013, 8014) ∷ (8017, 8018) ∷ []
 
 -- What qualifies one of them ("Key qualifiers").
 abbrev pub qualifiers : List (ℕ × ℕ)

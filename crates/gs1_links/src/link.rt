@@ -29,9 +29,9 @@ use std::alloc::{AllocError, Global};
 /// letters, digits and `-._~` stand as they are, and each other character as a percent sign and two
 /// capital hexadecimal digits.
 ///
-/// The domain is a host name of letters, digits, `-` and `.`, with a colon and the digits of a
-/// port after it or without. A reader of links finds in the link these elements in this order, and
-/// no others.
+/// The domain is a host name of letters, digits, `-` and `.`, as `is_domain` says, with a colon and
+/// the digits of a port after it or without. A reader of links finds in the link these elements in
+/// this order, and no others.
 ///
 /// # Errors
 ///

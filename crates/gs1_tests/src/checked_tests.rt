@@ -3,7 +3,7 @@ use gs1::{CheckError, Reason, check_element_values, checked_element_string};
 
 /// Texts, and their element strings: examples of the GS1 General Specifications and values that
 /// zint 2.11.1 takes.
-static STRINGS: [(&str, &[u8]); 12] = [
+static STRINGS: [(&str, &[u8]); 18] = [
     (
         "(01)09506000134352(17)261200(10)ABC123",
         b"01095060001343521726120010ABC123",
@@ -25,6 +25,18 @@ static STRINGS: [(&str, &[u8]); 12] = [
         b"8007GB82WEST12345698765432",
     ),
     ("(8008)2612312359(7030)999A", b"80082612312359\x1d7030999A"),
+    (
+        "(00)106141412345678908(4324)2612001200",
+        b"0010614141234567890843242612001200",
+    ),
+    ("(4325)2602002359(4321)1", b"43252602002359\x1d43211"),
+    (
+        "(8014)1987654Ad4X4bL5ttr2310c2K",
+        b"80141987654Ad4X4bL5ttr2310c2K",
+    ),
+    ("(717)ABC(21)7", b"717ABC\x1d217"),
+    ("(8030)Abc_-09Abc9==(21)7", b"8030Abc_-09Abc9==\x1d217"),
+    ("(3910)9241", b"39109241"),
 ];
 
 #[test]
@@ -39,7 +51,7 @@ fn writes_allowed_values(rt: HostRuntime) {
 
 /// Values with a fault: the text, the number of the element, the identifier, the place and the
 /// reason. What is expected of a check digit or a pair is what zint 2.11.1 expects.
-static FAULTS: [(&str, usize, usize, usize, Reason); 47] = [
+static FAULTS: [(&str, usize, usize, usize, Reason); 59] = [
     ("(10)123456789012345678901", 0, 10, 20, Reason::TooLong),
     (
         "(10)ABCDEFGHIJABCDEFGHIJABCDEFGHIJ",
@@ -92,6 +104,46 @@ static FAULTS: [(&str, usize, usize, usize, Reason); 47] = [
             second: b'Y',
         },
     ),
+    (
+        "(8014)1987654Ad4X4bL5ttr2310c2X",
+        0,
+        8014,
+        23,
+        Reason::WrongCheckPair {
+            first: b'2',
+            second: b'K',
+        },
+    ),
+    // Its pair is right, but it has digits alone.
+    (
+        "(8013)95060000000262",
+        0,
+        8013,
+        13,
+        Reason::WrongCharacter { byte: b'2' },
+    ),
+    ("(717)123456789012345678901", 0, 717, 20, Reason::TooLong),
+    (
+        "(8030)A=B",
+        0,
+        8030,
+        1,
+        Reason::WrongCharacter { byte: b'=' },
+    ),
+    (
+        "(8030)ABC=====",
+        0,
+        8030,
+        3,
+        Reason::WrongCharacter { byte: b'=' },
+    ),
+    (
+        "(8030)A===",
+        0,
+        8030,
+        1,
+        Reason::WrongCharacter { byte: b'=' },
+    ),
     ("(8004)1ABCD", 0, 8004, 1, Reason::NoCompanyPrefix),
     ("(8010)123A", 0, 8010, 3, Reason::NoCompanyPrefix),
     (
@@ -106,6 +158,9 @@ static FAULTS: [(&str, usize, usize, usize, Reason); 47] = [
     ("(11)260230", 0, 11, 4, Reason::WrongDay),
     ("(11)260229", 0, 11, 4, Reason::WrongDay),
     ("(7006)261200", 0, 7006, 4, Reason::WrongDay),
+    ("(4324)2613001200", 0, 4324, 2, Reason::WrongMonth),
+    ("(4325)2602302359", 0, 4325, 4, Reason::WrongDay),
+    ("(4326)261200", 0, 4326, 4, Reason::WrongDay),
     ("(7007)261231260431", 0, 7007, 10, Reason::WrongDay),
     ("(7250)19000229", 0, 7250, 6, Reason::WrongDay),
     ("(7003)2612312459", 0, 7003, 6, Reason::WrongHour),
@@ -118,6 +173,9 @@ static FAULTS: [(&str, usize, usize, usize, Reason); 47] = [
     ("(7030)998ABC", 0, 7030, 0, Reason::WrongCountry),
     ("(4307)UK", 0, 4307, 0, Reason::WrongCountry),
     ("(10)A(3910)9981", 1, 3910, 0, Reason::WrongCurrency),
+    ("(3910)1911", 0, 3910, 0, Reason::WrongCurrency),
+    ("(3932)9311", 0, 3932, 0, Reason::WrongCurrency),
+    ("(3910)9321", 0, 3910, 0, Reason::WrongCurrency),
     ("(4321)2", 0, 4321, 0, Reason::WrongFlag),
     ("(8006)095060001343520001", 0, 8006, 14, Reason::WrongPiece),
     ("(8006)095060001343520201", 0, 8006, 16, Reason::WrongPiece),

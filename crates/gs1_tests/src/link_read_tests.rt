@@ -110,7 +110,7 @@ fn reads_back_what_is_written(rt: HostRuntime) {
 }
 
 /// Links with a fault, before the elements and in their places.
-static FAULTS: [(&str, LinkReadError); 18] = [
+static FAULTS: [(&str, LinkReadError); 20] = [
     ("", LinkReadError::WrongScheme),
     ("ftp://x/01/09506000134352", LinkReadError::WrongScheme),
     ("https:/x/01/09506000134352", LinkReadError::WrongScheme),
@@ -125,6 +125,8 @@ static FAULTS: [(&str, LinkReadError); 18] = [
     ),
     ("https:///01/09506000134352", LinkReadError::WrongDomain),
     ("https://a_b/01/09506000134352", LinkReadError::WrongDomain),
+    ("https://a..b/01/09506000134352", LinkReadError::WrongDomain),
+    ("https://a:0/01/09506000134352", LinkReadError::WrongDomain),
     ("https://x", LinkReadError::NoKey),
     ("https://x/gtin/09506000134352", LinkReadError::NoKey),
     ("https://x/01/09506000134352/", LinkReadError::NoKey),

@@ -4,7 +4,7 @@ use gs1_links::{LinkError, PercentError, digital_link, percent_decoded, percent_
 use std::alloc::Global;
 
 /// Texts, domains and links. The first two are examples of the standard, as remembered.
-static LINKS: [(&str, &str, &str); 16] = [
+static LINKS: [(&str, &str, &str); 19] = [
     (
         "(01)09506000134352",
         "id.gs1.org",
@@ -77,6 +77,21 @@ static LINKS: [(&str, &str, &str); 16] = [
     ),
     (
         "(8018)950600013435200008",
+        "aaaaaaaaaaaaaaaaaaaaaaaaaaaaaaaaaaaaaaaaaaaaaaaaaaaaaaaaaaaaaaa.b-1:65535",
+        "https://aaaaaaaaaaaaaaaaaaaaaaaaaaaaaaaaaaaaaaaaaaaaaaaaaaaaaaaaaaaaaaa.b-1:65535/8018/950600013435200008",
+    ),
+    (
+        "(8018)950600013435200008",
+        "1.2.3.4:00001",
+        "https://1.2.3.4:00001/8018/950600013435200008",
+    ),
+    (
+        "(8014)1987654Ad4X4bL5ttr2310c2K",
+        "x",
+        "https://x/8014/1987654Ad4X4bL5ttr2310c2K",
+    ),
+    (
+        "(8018)950600013435200008",
         "x",
         "https://x/8018/950600013435200008",
     ),
@@ -97,7 +112,7 @@ fn writes_links(rt: HostRuntime) {
 }
 
 /// Texts and domains with a fault.
-static FAULTS: [(&str, &str, LinkError); 19] = [
+static FAULTS: [(&str, &str, LinkError); 29] = [
     ("", "", LinkError::Elements(CheckError::NoElements)),
     (
         "(01)09506000134351",
@@ -116,6 +131,21 @@ static FAULTS: [(&str, &str, LinkError); 19] = [
     ("(10)A", "a:80:80", LinkError::WrongDomain),
     ("(10)A", "a:8x", LinkError::WrongDomain),
     ("(10)A", "a_b", LinkError::WrongDomain),
+    ("(10)A", ".", LinkError::WrongDomain),
+    ("(10)A", "a..b", LinkError::WrongDomain),
+    ("(10)A", ".a", LinkError::WrongDomain),
+    ("(10)A", "a.", LinkError::WrongDomain),
+    (
+        "(10)A",
+        "b.aaaaaaaaaaaaaaaaaaaaaaaaaaaaaaaaaaaaaaaaaaaaaaaaaaaaaaaaaaaaaaaa",
+        LinkError::WrongDomain,
+    ),
+    ("(10)A", "a:0", LinkError::WrongDomain),
+    ("(10)A", "a:000", LinkError::WrongDomain),
+    ("(10)A", "a:65536", LinkError::WrongDomain),
+    ("(10)A", "a:99999999", LinkError::WrongDomain),
+    // Ten to the twentieth, which is more than 64 bits hold.
+    ("(10)A", "a:100000000000000000000", LinkError::WrongDomain),
     ("(10)A", "a", LinkError::NoKey),
     (
         "(01)09506000134352(00)106141412345678908",

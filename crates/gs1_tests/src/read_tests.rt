@@ -1,8 +1,8 @@
 //! Elements of what scanners give.
-use gs1::{CheckError, Element, Reason, brackets, elements_of, string_brackets};
+use gs1::{CheckError, Element, Reason, brackets, elements_of, scanned, string_brackets};
 
 /// What scanners give, with the element of a number, or none if there are no more.
-static SCANS: [(&[u8], usize, Option<(&[u8], &[u8])>); 6] = [
+static SCANS: [(&[u8], usize, Option<(&[u8], &[u8])>); 10] = [
     (
         b"]Q3010950600013435210ABC\x1d217",
         0,
@@ -13,6 +13,15 @@ static SCANS: [(&[u8], usize, Option<(&[u8], &[u8])>); 6] = [
     (b"]Q3010950600013435210ABC\x1d217", 3, None),
     (b"310300018910A(B)", 1, Some((b"10", b"A(B)"))),
     (b"10A\x1d", 1, None),
+    // Some scanners end with a separator, also after an element of predefined length.
+    (b"10A\x1d", 0, Some((b"10", b"A"))),
+    (b"]Q310A\x1d", 0, Some((b"10", b"A"))),
+    (
+        b"]Q30109506000134352\x1d",
+        0,
+        Some((b"01", b"09506000134352")),
+    ),
+    (b"0109506000134352\x1d", 1, None),
 ];
 
 #[test]
@@ -25,10 +34,17 @@ fn finds_elements_of_scans(rt: HostRuntime) {
     }
 }
 
-/// Scans with a fault. Only `]Q3` is left out, and only once.
-static FAULTS: [(&[u8], CheckError); 5] = [
+/// Scans with a fault. Of marks in front only `]Q3` is left out, and only once, and at the end one
+/// separator.
+static FAULTS: [(&[u8], CheckError); 8] = [
     (b"", CheckError::NoElements),
     (b"]Q3", CheckError::NoElements),
+    (b"\x1d", CheckError::NoElements),
+    (b"]Q3\x1d", CheckError::NoElements),
+    (
+        b"0109506000134352\x1d\x1d",
+        CheckError::InvalidIdentifier { element: 1 },
+    ),
     (b"]C110A", CheckError::InvalidIdentifier { element: 0 }),
     (b"]Q3]Q310A", CheckError::InvalidIdentifier { element: 0 }),
     (
@@ -47,6 +63,23 @@ fn refuses_scans(rt: HostRuntime) {
     for (bytes, fault) in FAULTS {
         let refused = elements_of(rt.alloc(), bytes).err();
         assert_eq!(rt; refused, Some(fault));
+    }
+}
+
+/// What scanners give, and the element string of it.
+static MARKED: [(&[u8], &[u8]); 6] = [
+    (b"]Q310A\x1d217\x1d", b"10A\x1d217"),
+    (b"]Q310A", b"10A"),
+    (b"10A\x1d", b"10A"),
+    (b"10A\x1d\x1d", b"10A\x1d"),
+    (b"]Q1\x1d10A", b"]Q1\x1d10A"),
+    (b"", b""),
+];
+
+#[test]
+fn leaves_out_marks(rt: HostRuntime) {
+    for (bytes, left) in MARKED {
+        assert_eq!(rt; scanned(bytes), left);
     }
 }
 

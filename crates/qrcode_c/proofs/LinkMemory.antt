@@ -2,7 +2,6 @@
 -- not UTF-8.
 use Rattle.std.proofs.Common.{◌≡◌, ◌∙◌, refl, sym, ap, arith}
 use Rattle.std.specs.Prelude.{ℕ, ◌+◌, ◌<◌, Bool, true, false, not, List, [], ◌∷◌, length, All, Option, Some, None, if◌then◌else◌}
-use Rattle.gs1_base.specs.Characters.{is_decimal_digit}
 use Rattle.std.specs.Prelude.{◌&&◌, ◌||◌, ◌==◌, nat_lt, is_some, Result, Ok, Err, IfOk, OnOk, IfErr}
 use Rattle.std.specs.Option.{option_or, option_map}
 use Rattle.std.specs.List.{list_any, list_all, before_first, after_first, position_or_len}
@@ -13,7 +12,7 @@ use Rattle.std.proofs.lemmas.Str.Ascii.{IsAscii-from_all}
 use Rattle.std.proofs.lemmas.List.Elements.{All-cons, All-nil}
 use Rattle.gs1.specs.Elements.{Element, written_elements}
 use Rattle.gs1_base.specs.Domains.{is_colon}
-use Rattle.gs1_base.specs.Domains.{is_domain, is_domain_character}
+use Rattle.gs1_base.specs.Domains.{is_domain, is_domain_character, are_labels, is_port}
 use Rattle.gs1_links.specs.Links.{keys, qualifiers, number, domain_fault, text_length_fault, no_key_fault}
 use Rattle.gs1_links.specs.Links.{qualifier_fault, second_key_fault, repeated_fault, later_fault, place_with}
 use Rattle.gs1_links.specs.Links.{first_rule_fault, elements_fault, qualifier_order, link_error, IsRefusedLink}
@@ -145,9 +144,8 @@ first_of_three false b c is = is
 all_of : (domain : List ℕ) → is_domain domain ≡ true → list_all is_domain_character domain ≡ true
 unfolding is_domain
 all_of domain is =
-    let port = after_first is_colon domain in
-    first_of_three (list_all is_domain_character domain) (not (length (before_first is_colon domain) == 0))
-    ((position_or_len is_colon domain == length domain) || not (length port == 0) && list_all is_decimal_digit port) is
+    first_of_three (list_all is_domain_character domain) (are_labels (before_first is_colon domain))
+    ((position_or_len is_colon domain == length domain) || is_port (after_first is_colon domain)) is
 
 no_text : (domain : List ℕ) → (IsUtf8 domain → ⊥) → domain_fault domain ≡ Some WrongDomain
 unfolding domain_fault
