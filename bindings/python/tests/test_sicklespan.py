@@ -211,7 +211,7 @@ class Symbols(unittest.TestCase):
         faults = (("(01)09506000134353", "a.b", "WrongCheckDigit"),
                   ("(01)09506000134352", "a/b", "WrongDomain"), ("(10)A", "a.b", "NoKey"),
                   ("(01)09506000134352(00)106141412345678908", "a.b", "SecondKey"),
-                  ("(00)106141412345678908(10)A", "a.b", "WrongQualifier"),
+                  ("(01)09506000134352(10)A(235)B", "a.b", "WrongQualifier"),
                   ("(01)09506000134352(3922)2172", "a.b", "MissingElement"),
                   ("(00)106141412345678908(420)1(421)0361", "a.b", "ConflictingElement"),
                   ("(10)A(01)09506000134352(10)A", "a.b", "RepeatedElement"))

@@ -14,7 +14,7 @@ use Rattle.gs1.specs.Elements.{Element}
 use Rattle.gs1.specs.Values.{element_error, first_error, identifier_error, value_error}
 use Rattle.gs1.specs.Together.{is_among, first_among}
 use Rattle.gs1_links.specs.Links.{keys, number, is_attribute, order_of, second_set, place_with, element_with}
-use Rattle.gs1_links.specs.Links.{primary_key, order_for, qualifier_order, query_elements, first_rule_fault, no_key_fault}
+use Rattle.gs1_links.specs.Links.{primary_key, order_for, qualifier_order, first_rule_fault, no_key_fault}
 use Rattle.gs1_links.specs.Links.{qualifier_fault, later_fault, second_key_fault, repeated_fault}
 use Rattle.gs1_links.specs.LinkReader.{follows, has_twins}
 use Rattle.gs1_links.specs.declared.link_error.LinkError.{LinkError}
@@ -194,13 +194,13 @@ all_qualifying P elements (n ∷ order) all =
 
 -- ---- The query
 
-pub all_attributes : (elements : List Element) → list_all is_attribute (query_elements elements) ≡ true
-all_attributes [] = refl
-all_attributes (e ∷ elements) =
-    elim (is_attribute e) as (λ b. is_attribute e ≡ b →
-    list_all is_attribute (cond b (e ∷ query_elements elements) (query_elements elements)) ≡ true) [
-      | true ↦ λ yes. rw yes (all_attributes elements)
-      | false ↦ λ no. all_attributes elements
+pub all_attributes : (key : ℕ) (elements : List Element) → list_all (is_attribute key) (filter (is_attribute key) elements) ≡ true
+all_attributes key [] = refl
+all_attributes key (e ∷ elements) =
+    elim (is_attribute key e) as (λ b. is_attribute key e ≡ b →
+    list_all (is_attribute key) (cond b (e ∷ filter (is_attribute key) elements) (filter (is_attribute key) elements)) ≡ true) [
+      | true ↦ λ yes. rw yes (all_attributes key elements)
+      | false ↦ λ no. all_attributes key elements
     ] refl
 
 -- None of the elements has this number.
@@ -240,16 +240,16 @@ alone place n later none = nothing (place_with n later) _ none
     nothing None x e = refl
     nothing (Some n) x e = absurd (let h : Some x ≡ None = e in cc)
 
-pub no_twins : (order : List ℕ) (place : ℕ) (elements : List Element) → first_rule_fault order place elements ≡ None →
-    has_twins (query_elements elements) ≡ false
-no_twins order place [] none = refl
-no_twins order place (e ∷ elements) none =
+pub no_twins : (key : ℕ) (order : List ℕ) (place : ℕ) (elements : List Element) → first_rule_fault order place elements ≡ None →
+    has_twins (filter (is_attribute key) elements) ≡ false
+no_twins key order place [] none = refl
+no_twins key order place (e ∷ elements) none =
     let first = neither (qualifier_fault order place (number e)) _ none in
     let second = neither (later_fault place (number e) elements) (first_rule_fault order (place + 1) elements) first.1 in
     let third = neither (second_key_fault place (number e) elements) (repeated_fault place (number e) elements) second.0 in
-    let single = filtered is_attribute (λ other. number other == number e) elements (none_of (number e) 0 elements (alone place (number e) elements third.1)) in
-    let below = no_twins order (place + 1) elements second.1 in
-    elim (is_attribute e) as (λ b. has_twins (cond b (e ∷ query_elements elements) (query_elements elements)) ≡ false) [
+    let single = filtered (is_attribute key) (λ other. number other == number e) elements (none_of (number e) 0 elements (alone place (number e) elements third.1)) in
+    let below = no_twins key order (place + 1) elements second.1 in
+    elim (is_attribute key e) as (λ b. has_twins (cond b (e ∷ filter (is_attribute key) elements) (filter (is_attribute key) elements)) ≡ false) [
       | true ↦ rw single below
       | false ↦ below
     ]

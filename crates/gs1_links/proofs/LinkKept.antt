@@ -2,14 +2,15 @@
 use Rattle.std.proofs.Common.{◌≡◌, ℕ, zero, suc, ◌+◌, ◌<◌, Bool, true, false, cond, not, List, [], ◌∷◌}
 use Rattle.std.proofs.Common.{get_or, refl, arith, ap, sym, subst, ◌∙◌}
 use Rattle.std.specs.Prelude.{All, Contains, Option, None, Some, is_some, ◌&&◌, ◌||◌, ◌==◌, if◌then◌else◌, slice_get}
-use Rattle.std.specs.List.{list_any}
+use Rattle.std.specs.List.{list_any, filter}
 use Rattle.std.specs.Option.{option_and_then, option_to_list}
 use Rattle.std.proofs.lemmas.Grind.{common_steps}
 use Rattle.std.proofs.lemmas.Option.{slice_get-get_or}
 use Rattle.std.proofs.lemmas.List.Elements.{Contains-append_left, Contains-append_right}
 use Rattle.gs1.specs.Elements.{Element}
 use Rattle.gs1.specs.Together.{is_among, first_among}
-use Rattle.gs1_links.specs.Links.{keys, qualifiers, number, is_attribute, element_with, primary_key, qualifier_order}
+use Rattle.gs1_links.specs.Links.{keys, number, is_attribute, element_with, primary_key, qualifier_order, order_of}
+use Rattle.gs1_links.specs.Links.{excluded_of, qualifies, key_number, has_second, excluded_qualifiers}
 use Rattle.gs1_links.specs.Links.{path_elements, query_elements, linked, qualifier_fault, second_key_fault}
 use Rattle.gs1_links.specs.Links.{repeated_fault, later_fault, first_rule_fault}
 use Rattle.gs1_links.specs.declared.link_error.LinkError.{LinkError}
@@ -120,15 +121,63 @@ right_qualifier order place (y ∷ elements) (suc k) e none at =
     let second = neither (later_fault place (number y) elements) (first_rule_fault order (place + 1) elements) first.1 in
     right_qualifier order (place + 1) elements k e second.1 at
 
-in_order_of : (order : List ℕ) (place n : ℕ) → qualifier_fault order place n ≡ None → is_among qualifiers n ≡ true →
-    list_any (λ m. m == n) order ≡ true
+not_excluded : (excluded : List ℕ) (place n : ℕ) → qualifier_fault excluded place n ≡ None → list_any (λ m. m == n) excluded ≡ false
 unfolding qualifier_fault
-in_order_of order place n none is = right (is_among qualifiers n) (list_any (λ m. m == n) order) (WrongQualifier place n) is none
+not_excluded excluded place n none = no (list_any (λ m. m == n) excluded) (WrongQualifier place n) none
   where
-    right : (a b : Bool) (x : LinkError) → a ≡ true → (if a && not b then Some x else None) ≡ None → b ≡ true
-    right true true x is e = refl
-    right true false x is e = absurd (none_some x (sym e))
-    right false b x is e = absurd (let h : false ≡ true = is in cc)
+    no : (b : Bool) (x : LinkError) → (if b then Some x else None) ≡ None → b ≡ false
+    no true x e = absurd (none_some x (sym e))
+    no false x e = refl
+
+-- But for two keys the sets are the same.
+same_sets : (key : ℕ) → ((key == 1) || (key == 414)) ≡ false → order_of key false ≡ order_of key true
+unfolding order_of
+same_sets key e =
+    let each = neither_is (key == 1) (key == 414) e in rw (each.0, each.1) refl
+  where
+    neither_is : (a b : Bool) → (a || b) ≡ false → (a ≡ false) × (b ≡ false)
+    neither_is true b e = absurd (let h : true ≡ false = e in cc)
+    neither_is false b e = (refl, e)
+
+-- Of the qualifiers of a key, those that are not excluded are in the order.
+in_order_of : (key : ℕ) (second : Bool) (n : ℕ) → list_any (λ m. m == n) (excluded_of key second) ≡ false →
+    qualifies key n ≡ true → list_any (λ m. m == n) (order_of key second) ≡ true
+unfolding excluded_of
+in_order_of key second n none is =
+    elim ((key == 1) || (key == 414)) as (λ b. ((key == 1) || (key == 414)) ≡ b →
+    list_any (λ m. m == n) (cond b (order_of key (not second)) []) ≡ false → list_any (λ m. m == n) (order_of key second) ≡ true) [
+      | true ↦ λ two other. of_two second other
+      | false ↦ λ one other. of_one second (same_sets key one)
+    ] refl none
+  where
+    left : (a b : Bool) → b ≡ false → (a || b) ≡ true → a ≡ true
+    left true b other either = refl
+    left false b other either = absurd (let h : false ≡ true = sym other ∙ either in cc)
+
+    right : (a b : Bool) → a ≡ false → (a || b) ≡ true → b ≡ true
+    right true b other either = absurd (let h : true ≡ false = other in cc)
+    right false b other either = either
+
+    of_two : (second : Bool) → list_any (λ m. m == n) (order_of key (not second)) ≡ false →
+        list_any (λ m. m == n) (order_of key second) ≡ true
+    of_two true other = right (list_any (λ m. m == n) (order_of key false)) (list_any (λ m. m == n) (order_of key true)) other is
+    of_two false other = left (list_any (λ m. m == n) (order_of key false)) (list_any (λ m. m == n) (order_of key true)) other is
+
+    both_same : (a : Bool) → (a || a) ≡ true → a ≡ true
+    both_same true e = refl
+    both_same false e = e
+
+    of_one : (second : Bool) → order_of key false ≡ order_of key true → list_any (λ m. m == n) (order_of key second) ≡ true
+    of_one second same =
+        let A : List ℕ → Bool = λ order. list_any (λ m. m == n) order in
+        let P : List ℕ → Type 0 = λ order. (A order || A (order_of key true)) ≡ true in
+        let last : A (order_of key true) ≡ true = both_same (A (order_of key true)) (subst P same is) in
+        pick second last (ap A same ∙ last)
+      where
+        pick : (second : Bool) → list_any (λ m. m == n) (order_of key true) ≡ true →
+            list_any (λ m. m == n) (order_of key false) ≡ true → list_any (λ m. m == n) (order_of key second) ≡ true
+        pick true last first = last
+        pick false last first = first
 
 itself : (e : Element) → Contains (e ∷ []) e
 itself e = (0, omega arith, refl)
@@ -150,18 +199,18 @@ in_path elements (m ∷ order) n e is any =
     same_number : (m n : ℕ) → (m == n) ≡ true → m ≡ n
     same_number m n e = grind (arith, common_steps)
 
-in_query : (elements : List Element) (k : ℕ) (e : Element) → slice_get elements k ≡ Some e → is_attribute e ≡ true →
-    Contains (query_elements elements) e
-in_query [] k e at is = absurd (none_some e at)
-in_query (x ∷ elements) zero e at is =
-    let here : is_attribute x ≡ true = subst (λ y. is_attribute y ≡ true) (sym (some_same x e at)) is in
-    let all : query_elements (x ∷ elements) ≡ x ∷ query_elements elements = rw here refl in
+in_query : (key : ℕ) (elements : List Element) (k : ℕ) (e : Element) → slice_get elements k ≡ Some e → is_attribute key e ≡ true →
+    Contains (filter (is_attribute key) elements) e
+in_query key [] k e at is = absurd (none_some e at)
+in_query key (x ∷ elements) zero e at is =
+    let here : is_attribute key x ≡ true = subst (λ y. is_attribute key y ≡ true) (sym (some_same x e at)) is in
+    let all : filter (is_attribute key) (x ∷ elements) ≡ x ∷ filter (is_attribute key) elements = rw here refl in
     subst (λ es. Contains es e) (sym all)
-    (Contains-append_left (x ∷ []) (query_elements elements) e (subst (Contains (x ∷ [])) (some_same x e at) (itself x)))
-in_query (x ∷ elements) (suc k) e at is =
-    let below = in_query elements k e at is in
-    elim (is_attribute x) as (λ b. Contains (cond b (x ∷ query_elements elements) (query_elements elements)) e) [
-      | true ↦ Contains-append_right (x ∷ []) (query_elements elements) e below
+    (Contains-append_left (x ∷ []) (filter (is_attribute key) elements) e (subst (Contains (x ∷ [])) (some_same x e at) (itself x)))
+in_query key (x ∷ elements) (suc k) e at is =
+    let below = in_query key elements k e at is in
+    elim (is_attribute key x) as (λ b. Contains (cond b (x ∷ filter (is_attribute key) elements) (filter (is_attribute key) elements)) e) [
+      | true ↦ Contains-append_right (x ∷ []) (filter (is_attribute key) elements) e below
       | false ↦ below
     ]
 
@@ -171,39 +220,41 @@ same_range n = grind (arith, common_steps)
 zero_more : (k : ℕ) → 0 + k ≡ k
 zero_more k = omega arith
 
-kept_at : (elements : List Element) (k : ℕ) (e : Element) → first_rule_fault (qualifier_order elements) 0 elements ≡ None →
+kept_at : (elements : List Element) (k : ℕ) (e : Element) → first_rule_fault (excluded_qualifiers elements) 0 elements ≡ None →
     slice_get elements k ≡ Some e → Contains (linked elements) e
 kept_at elements k e rules at =
     elim (is_among keys (number e)) as (λ b. is_among keys (number e) ≡ b → Contains (linked elements) e) [
       | true ↦ λ key.
           (let first : first_among keys 0 elements ≡ Some k = subst (λ m. first_among keys 0 elements ≡ Some m) (zero_more k)
-          (first_at keys 0 k elements e at key (λ j x less there. (apart (qualifier_order elements) 0 elements j k x e rules less there at).not_keys key)) in
+          (first_at keys 0 k elements e at key (λ j x less there. (apart (excluded_qualifiers elements) 0 elements j k x e rules less there at).not_keys key)) in
           let is : primary_key elements ≡ Some e =
           ap (λ o. option_and_then (λ place. slice_get elements place) o) first ∙ at in
           Contains-append_left (path_elements elements) (query_elements elements) e
           (Contains-append_left (option_to_list (primary_key elements)) (qualifying (qualifier_order elements) elements) e
           (subst (λ o. Contains (option_to_list o) e) (sym is) (itself e))))
-      | false ↦ λ no_key. elim (is_among qualifiers (number e)) as (λ b. is_among qualifiers (number e) ≡ b → Contains (linked elements) e) [
-        | true ↦ λ qualifier.
-            (let right = right_qualifier (qualifier_order elements) 0 elements k e rules at in
-            let any = in_order_of (qualifier_order elements) right.0 (number e) right.1 qualifier in
-            let first : first_among ((number e, number e) ∷ []) 0 elements ≡ Some k =
-            subst (λ m. first_among ((number e, number e) ∷ []) 0 elements ≡ Some m) (zero_more k)
-            (first_at ((number e, number e) ∷ []) 0 k elements e at (same_range (number e))
-            (λ j x less there. (apart (qualifier_order elements) 0 elements j k x e rules less there at).numbers)) in
-            let is : element_with (number e) elements ≡ Some e =
-            ap (λ o. option_and_then (λ place. slice_get elements place) o) first ∙ at in
-            Contains-append_left (path_elements elements) (query_elements elements) e
-            (Contains-append_right (option_to_list (primary_key elements)) (qualifying (qualifier_order elements) elements) e
-            (in_path elements (qualifier_order elements) (number e) e is any)))
-        | false ↦ λ no_qualifier.
-            Contains-append_right (path_elements elements) (query_elements elements) e
-            (in_query elements k e at (rw (no_key, no_qualifier) refl))
-      ] refl
+      | false ↦ λ no_key. elim (qualifies (key_number elements) (number e)) as (λ b. qualifies (key_number elements) (number e) ≡ b →
+          Contains (linked elements) e) [
+            | true ↦ λ qualifier.
+                (let right = right_qualifier (excluded_qualifiers elements) 0 elements k e rules at in
+                let any = in_order_of (key_number elements) (has_second elements (key_number elements)) (number e)
+                (not_excluded (excluded_qualifiers elements) right.0 (number e) right.1) qualifier in
+                let first : first_among ((number e, number e) ∷ []) 0 elements ≡ Some k =
+                subst (λ m. first_among ((number e, number e) ∷ []) 0 elements ≡ Some m) (zero_more k)
+                (first_at ((number e, number e) ∷ []) 0 k elements e at (same_range (number e))
+                (λ j x less there. (apart (excluded_qualifiers elements) 0 elements j k x e rules less there at).numbers)) in
+                let is : element_with (number e) elements ≡ Some e =
+                ap (λ o. option_and_then (λ place. slice_get elements place) o) first ∙ at in
+                Contains-append_left (path_elements elements) (query_elements elements) e
+                (Contains-append_right (option_to_list (primary_key elements)) (qualifying (qualifier_order elements) elements) e
+                (in_path elements (qualifier_order elements) (number e) e is any)))
+            | false ↦ λ no_qualifier.
+                Contains-append_right (path_elements elements) (query_elements elements) e
+                (in_query (key_number elements) elements k e at (rw (no_key, no_qualifier) refl))
+          ] refl
     ] refl
 
 -- Each element of the text is in its link.
-pub all_kept : (elements : List Element) → first_rule_fault (qualifier_order elements) 0 elements ≡ None →
+pub all_kept : (elements : List Element) → first_rule_fault (excluded_qualifiers elements) 0 elements ≡ None →
     All (Contains (linked elements)) elements
 all_kept elements rules k d within =
     kept_at elements k (get_or elements k d) rules (slice_get-get_or elements k d within)

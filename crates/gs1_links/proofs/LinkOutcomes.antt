@@ -19,7 +19,7 @@ use Rattle.gs1_links.specs.LinkReader.{http, is_slash, is_question, is_link_char
 use Rattle.gs1_links.specs.LinkReader.{ReadsLink}
 use Rattle.gs1_links.specs.LinkFaults.{decoded_element, written_fault, is_key_text, path_in, pairs, qualifiers_fault, path_fault}
 use Rattle.gs1_links.specs.LinkFaults.{begins_http, goes_on_secure, goes_on_plain}
-use Rattle.gs1_links.specs.LinkFaults.{query_fault, twins_fault, after_scheme, scheme_fault, link_character_fault, rest_of, before_query, query_of}
+use Rattle.gs1_links.specs.LinkFaults.{path_key, query_fault, twins_fault, after_scheme, scheme_fault, link_character_fault, rest_of, before_query, query_of}
 use Rattle.gs1_links.specs.LinkFaults.{link_domain_fault, path_of, link_key_fault, front_fault, path_pairs, query_parts_of, reading_fault, link_elements}
 use Rattle.gs1_links.specs.LinkFaults.{parts_fault, link_together_fault, elements_in}
 use Rattle.gs1_links.specs.LinkFaults.{LinksAreReadOrRefused, LinksAreReadBack}
@@ -188,7 +188,7 @@ record IsSoundLink (link rest : List ℕ) (stem : List (List ℕ)) (i t : List �
   is_key : is_key_text i ≡ true
   odd : (length (t ∷ more) % 2 == 1) ≡ true
   path : path_fault (pairs (i ∷ t ∷ more)) ≡ None
-  query : query_fault (length (pairs (i ∷ t ∷ more))) (query_parts (after_first is_question rest)) ≡ None
+  query : query_fault (path_key (pairs (i ∷ t ∷ more))) (length (pairs (i ∷ t ∷ more))) (query_parts (after_first is_question rest)) ≡ None
   twins : twins_fault (length (pairs (i ∷ t ∷ more))) (query_parts (after_first is_question rest)) ≡ None
   together : StandTogether (map decoded_element (pairs (i ∷ t ∷ more)) ++ map read_part (query_parts (after_first is_question rest)))
 
@@ -201,7 +201,7 @@ sound_read link rest stem i t more sound =
     let one = neither (written_fault 0 key) (qualifiers_fault (order_of (number key) false) (order_of (number key) true) 1 (pairs more)) sound.path in
     let good = sound_written 0 key one.0 in
     let quals = sound_qualifiers (order_of (number key) false) (order_of (number key) true) 1 (pairs more) one.1 in
-    let query = sound_parts count parts sound.query in
+    let query = sound_parts (number key) count parts sound.query in
     let P : Element → Type 0 = λ e. element_error 0 e ≡ None in
     let F : List ℕ → Type 0 = λ ns. FollowsOne ns (order_of (number key) false) (order_of (number key) true) in
     record {
@@ -254,7 +254,7 @@ link_reads link none =
     let s0 = neither (parts_fault link) (link_together_fault (link_elements link)) none in
     let s1 = neither (front_fault link) _ s0.0 in
     let s2 = neither (path_fault (path_pairs link)) _ s1.1 in
-    let s3 = neither (query_fault (length (path_pairs link)) (query_parts_of link)) _ s2.1 in
+    let s3 = neither (query_fault (path_key (path_pairs link)) (length (path_pairs link)) (query_parts_of link)) _ s2.1 in
     let f1 = neither (scheme_fault link) _ s1.0 in
     let f2 = neither (link_character_fault link) _ f1.1 in
     let f3 = neither (link_domain_fault link) (link_key_fault link) f2.1 in
@@ -269,7 +269,7 @@ link_reads link none =
     let joined : drop 1 (slice_split is_slash (before_query link)) ≡ is.stem ++ (is.identifier ∷ tail.0 ∷ tail.1) =
     is.joined ∙ ap (λ xs. is.stem ++ xs) begins in
     let Q : Option (List (List ℕ)) → Type 0 = λ o. path_fault (pairs (unwrap_or o [])) ≡ None in
-    let R : Option (List (List ℕ)) → Type 0 = λ o. query_fault (N o) (query_parts_of link) ≡ None in
+    let R : Option (List (List ℕ)) → Type 0 = λ o. query_fault (path_key (pairs (unwrap_or o []))) (N o) (query_parts_of link) ≡ None in
     let S : Option (List (List ℕ)) → Type 0 = λ o. twins_fault (N o) (query_parts_of link) ≡ None in
     let sound : IsSoundLink link (rest_of link) is.stem is.identifier tail.0 tail.1 = record {
       scheme = (let T : List ℕ → Type 0 = λ r. (link ≡ https ++ r) ⊎ (link ≡ http ++ r) in
@@ -331,6 +331,7 @@ read_has_no_fault link elements rd =
     ap (λ r. query_parts (after_first is_question r)) rest in
     let linkable = query_linkable rd.key rd.qualifying rd.query rd.linked in
     let count : ℕ = length (path_pairs link) in
+    let key_is : path_key (path_pairs link) ≡ number rd.key = ap path_key pairs_are ∙ ap (λ s. path_key (pairs s)) rd.parts.path_is.2 in
     let parts : List (List ℕ) = query_parts (after_first is_question rd.parts.rest) in
     or_none (parts_fault link) (link_together_fault (link_elements link)) (or_none (front_fault link) _
     (or_none (scheme_fault link) _ (none_scheme link rd.parts.rest scheme)
@@ -340,8 +341,9 @@ read_has_no_fault link elements rd =
     (none_key link rd.parts.segments found))))
     (or_none (path_fault (path_pairs link)) _
     (ap path_fault pairs_are ∙ path_none rd.parts.segments rd.key rd.qualifying rd.parts.path_is path_allowed rd.linked.ordered)
-    (or_none (query_fault count (query_parts_of link)) (twins_fault count (query_parts_of link))
-    (ap (query_fault count) parts_are' ∙ query_none count parts rd.query rd.parts.query_is linkable rd.linked.attributes)
+    (or_none (query_fault (path_key (path_pairs link)) count (query_parts_of link)) (twins_fault count (query_parts_of link))
+    (ap (λ n. query_fault n count (query_parts_of link)) key_is ∙ ap (query_fault (number rd.key) count) parts_are'
+    ∙ query_none (number rd.key) count parts rd.query rd.parts.query_is linkable rd.linked.attributes)
     (ap (twins_fault count) parts_are' ∙ twins_none count parts
     (subst (λ es. has_twins es ≡ false) (sym (parts_are parts rd.query rd.parts.query_is linkable)) rd.linked.once)))))
     (together_none (link_elements link) (together_numbers (link_elements link) (rd.key ∷ rd.qualifying ++ rd.query)
@@ -353,25 +355,27 @@ read_or_refused = record { read = link_reads; refused = read_has_no_fault }
 
 -- ---- What the code has
 
-pub all_read : {X : Type 0} (f : X → Element) (link path query : List ℕ) (parts : List (List ℕ)) (count : ℕ) (none first all : List X) → None ≡ front_fault link → path_of link ≡ Some (slice_split is_slash path) → query ≡ query_of link →
+pub all_read : {X : Type 0} (f : X → Element) (link path query : List ℕ) (parts : List (List ℕ)) (key count : ℕ) (none first all : List X) → None ≡ front_fault link → path_of link ≡ Some (slice_split is_slash path) → query ≡ query_of link →
     None ≡ path_fault (pairs (slice_split is_slash path)) → count ≡ length (pairs (slice_split is_slash path)) →
-    parts ≡ query_parts query → None ≡ query_fault count parts → None ≡ twins_fault count parts →
+    parts ≡ query_parts query → key ≡ path_key (pairs (slice_split is_slash path)) → None ≡ query_fault key count parts → None ≡ twins_fault count parts →
     None ≡ link_together_fault (elements_in path query) → none ≡ [] →
     map f first ≡ map f none ++ map decoded_element (pairs (slice_split is_slash path)) →
     map f all ≡ map f first ++ map read_part parts → ReadsLink link (map f all)
-all_read f link path query parts count none first all front path_found query_is path_good count_is parts_is query_good twins_good together_good none_is first_is all_is =
+all_read f link path query parts key count none first all front path_found query_is path_good count_is parts_is key_is query_good twins_good together_good none_is first_is all_is =
     let raws : List Element = pairs (slice_split is_slash path) in
     let pairs_are : path_pairs link ≡ raws = ap (λ o. pairs (unwrap_or o [])) path_found in
     let parts_are' : query_parts_of link ≡ parts = ap query_parts (sym query_is) ∙ sym parts_is in
     let count' : length (path_pairs link) ≡ count = ap length pairs_are ∙ sym count_is in
+    let key' : path_key (path_pairs link) ≡ key = ap path_key pairs_are ∙ sym key_is in
     let raw_are : link_elements link ≡ elements_in path query =
     ap (λ es. map decoded_element es ++ map read_part (query_parts_of link)) pairs_are
     ∙ ap (λ q. map decoded_element raws ++ map read_part (query_parts q)) (sym query_is) in
     let good : reading_fault link ≡ None =
     or_none (parts_fault link) (link_together_fault (link_elements link)) (or_none (front_fault link) _ (sym front)
     (or_none (path_fault (path_pairs link)) _ (ap path_fault pairs_are ∙ sym path_good)
-    (or_none (query_fault (length (path_pairs link)) (query_parts_of link)) (twins_fault (length (path_pairs link)) (query_parts_of link))
-    (ap (λ n. query_fault n (query_parts_of link)) count' ∙ ap (query_fault count) parts_are' ∙ sym query_good)
+    (or_none (query_fault (path_key (path_pairs link)) (length (path_pairs link)) (query_parts_of link)) (twins_fault (length (path_pairs link)) (query_parts_of link))
+    (ap (λ n. query_fault n (length (path_pairs link)) (query_parts_of link)) key' ∙ ap (λ n. query_fault key n (query_parts_of link)) count'
+    ∙ ap (query_fault key count) parts_are' ∙ sym query_good)
     (ap (λ n. twins_fault n (query_parts_of link)) count' ∙ ap (twins_fault count) parts_are' ∙ sym twins_good))))
     (ap link_together_fault raw_are ∙ sym together_good) in
     let start : map f none ≡ [] = ap (map f) none_is in

@@ -75,9 +75,9 @@ has_equals place part none = no (position_or_len is_equals part == length part) 
     no true e = absurd (let h : Some (NoEqualsSign place) ≡ None = e in cc)
     no false e = refl
 
-attribute_is : (place : ℕ) (e : Element) → attribute_fault place e ≡ None → is_attribute e ≡ true
+attribute_is : (key place : ℕ) (e : Element) → attribute_fault key place e ≡ None → is_attribute key e ≡ true
 unfolding attribute_fault
-attribute_is place e none = yes (is_attribute e) none
+attribute_is key place e none = yes (is_attribute key e) none
   where
     yes : (b : Bool) → cond b None (Some (WrongAttribute place (number e))) ≡ None → b ≡ true
     yes true h = refl
@@ -86,20 +86,20 @@ attribute_is place e none = yes (is_attribute e) none
 -- ---- Parts without a fault
 
 -- What they are.
-pub record AreSoundParts (parts : List (List ℕ)) : Type 0 where
+pub record AreSoundParts (key : ℕ) (parts : List (List ℕ)) : Type 0 where
   pub reads : ReadsQuery parts (map read_part parts)
   pub allowed : All (λ e. element_error 0 e ≡ None) (map read_part parts)
-  pub attributes : list_all is_attribute (map read_part parts) ≡ true
+  pub attributes : list_all (is_attribute key) (map read_part parts) ≡ true
 
-pub sound_parts : (place : ℕ) (parts : List (List ℕ)) → query_fault place parts ≡ None → AreSoundParts parts
-sound_parts place [] none = record { reads = refl; allowed = All-nil (λ e. element_error 0 e ≡ None); attributes = refl }
-sound_parts place (part ∷ parts) none =
-    let one = neither (part_fault place part) (query_fault (place + 1) parts) none in
+pub sound_parts : (key place : ℕ) (parts : List (List ℕ)) → query_fault key place parts ≡ None → AreSoundParts key parts
+sound_parts key place [] none = record { reads = refl; allowed = All-nil (λ e. element_error 0 e ≡ None); attributes = refl }
+sound_parts key place (part ∷ parts) none =
+    let one = neither (part_fault key place part) (query_fault key (place + 1) parts) none in
     let two = neither (equals_fault place part) _ one.0 in
-    let three = neither (written_fault place (part_element part)) (attribute_fault place (part_element part)) two.1 in
+    let three = neither (written_fault place (part_element part)) (attribute_fault key place (part_element part)) two.1 in
     let good = sound_written place (part_element part) three.0 in
-    let attribute : is_attribute (read_part part) ≡ true = attribute_is place (part_element part) three.1 in
-    let below = sound_parts (place + 1) parts one.1 in
+    let attribute : is_attribute key (read_part part) ≡ true = attribute_is key place (part_element part) three.1 in
+    let below = sound_parts key (place + 1) parts one.1 in
     let cut = part_is part (has_equals place part two.0) in
     record {
       reads = (
@@ -156,25 +156,25 @@ equals_none place identifier text free =
       | false ↦ λ is. refl
     ] refl
 
-attribute_none : (place : ℕ) (e : Element) → is_attribute e ≡ true → attribute_fault place e ≡ None
+attribute_none : (key place : ℕ) (e : Element) → is_attribute key e ≡ true → attribute_fault key place e ≡ None
 unfolding attribute_fault
-attribute_none place e is = rw is refl
+attribute_none key place e is = rw is refl
 
-pub query_none : (place : ℕ) (parts : List (List ℕ)) (elements : List Element) → ReadsQuery parts elements →
-    All IsLinkable elements → list_all is_attribute elements ≡ true → query_fault place parts ≡ None
-query_none place parts [] reads good all = ap (query_fault place) reads
-query_none place parts (e ∷ elements) reads good all =
+pub query_none : (key place : ℕ) (parts : List (List ℕ)) (elements : List Element) → ReadsQuery parts elements →
+    All IsLinkable elements → list_all (is_attribute key) elements ≡ true → query_fault key place parts ≡ None
+query_none key place parts [] reads good all = ap (query_fault key place) reads
+query_none key place parts (e ∷ elements) reads good all =
     let first = All-head IsLinkable e elements good in
-    let each = both (is_attribute e) (list_all is_attribute elements) all in
+    let each = both (is_attribute key e) (list_all (is_attribute key) elements) all in
     let part : List ℕ = e.identifier ++ 0x3d ∷ reads.0 in
     let raw : Element = record { identifier = e.identifier; value = reads.0 } in
     let is : part_element part ≡ raw = part_element_is e reads.0 first in
     let written : written_fault place (part_element part) ≡ None =
     subst (λ x. written_fault place x ≡ None) (sym is) (written_none place e.identifier reads.0 e.value reads.3 first.allowed) in
-    let attribute : attribute_fault place (part_element part) ≡ None =
-    subst (λ x. attribute_fault place x ≡ None) (sym is) (attribute_none place raw each.0) in
-    let below = query_none (place + 1) reads.1 elements reads.4 (All-tail IsLinkable e elements good) each.1 in
-    ap (query_fault place) reads.2
+    let attribute : attribute_fault key place (part_element part) ≡ None =
+    subst (λ x. attribute_fault key place x ≡ None) (sym is) (attribute_none key place raw each.0) in
+    let below = query_none key (place + 1) reads.1 elements reads.4 (All-tail IsLinkable e elements good) each.1 in
+    ap (query_fault key place) reads.2
     ∙ rw (equals_none place e.identifier reads.0 (no_equals e first), written, attribute) below
 
 -- ---- Twins

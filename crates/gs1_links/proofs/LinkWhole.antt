@@ -1,13 +1,14 @@
 -- The link of a text without a fault is read as its elements.
 use Rattle.std.proofs.Common.{◌≡◌, ℕ, Bool, true, false, List, [], ◌∷◌, ◌++◌, length, ◌+◌, refl, ap, sym, subst}
-use Rattle.std.specs.Prelude.{All, Contains, Option, None, Some, if◌then◌else◌, nat_lt, is_some, ◌&&◌, ◌==◌, not}
+use Rattle.std.specs.Prelude.{All, Contains, Option, None, Some, if◌then◌else◌, nat_lt, is_some, ◌&&◌, ◌==◌, unwrap_or}
 use Rattle.std.specs.Option.{option_or, option_map, option_to_list}
-use Rattle.std.specs.List.{list_any}
+use Rattle.std.specs.List.{list_any, list_all}
 use Rattle.std.proofs.lemmas.List.Elements.{All-cons, All-append, All-weaker, All-filter, All-contains_itself}
 use Rattle.gs1.specs.Elements.{Element, written_elements}
 use Rattle.gs1.specs.Values.{element_error, first_error, text_error}
 use Rattle.gs1_base.specs.Domains.{is_domain}
-use Rattle.gs1_links.specs.Links.{keys, qualifiers, number, is_attribute, domain_fault, text_length_fault, no_key_fault}
+use Rattle.gs1_links.specs.Links.{key_number, excluded_qualifiers}
+use Rattle.gs1_links.specs.Links.{keys, number, is_attribute, domain_fault, text_length_fault, no_key_fault}
 use Rattle.gs1_links.specs.Links.{qualifier_fault, second_key_fault, repeated_fault, later_fault, place_with}
 use Rattle.gs1_links.specs.Links.{first_rule_fault, elements_fault, qualifier_order, path_elements, query_elements}
 use Rattle.gs1_links.specs.Links.{linked, link_of, link_error, IsRefusedLink, together_fault, linking_fault}
@@ -29,16 +30,17 @@ use Rattle.gs1_links.proofs.LinkKept.{all_kept}
 use Rattle.gs1_links.proofs.LinkTogether.{together_same}
 
 elements_read : (domain : List ℕ) (elements : List Element) → is_domain domain ≡ true → first_error 0 elements ≡ None →
-    no_key_fault elements ≡ None → first_rule_fault (qualifier_order elements) 0 elements ≡ None →
+    no_key_fault elements ≡ None → first_rule_fault (excluded_qualifiers elements) 0 elements ≡ None →
     first_conflict elements 0 elements ≡ None → ReadsLink (link_of domain elements) (linked elements)
 elements_read domain elements is table some_one rules together =
     let good = all_linkable 0 elements table in
     let key = some_key elements some_one in
     let path_is : path_elements elements ≡ key.0 ∷ qualifying (qualifier_order elements) elements =
     ap (λ o. option_to_list o ++ qualifying (qualifier_order elements) elements) key.1 in
+    let number_is : key_number elements ≡ number key.0 = ap (λ o. unwrap_or (option_map number o) 0) key.1 in
     let good_path = All-cons IsLinkable key.0 (qualifying (qualifier_order elements) elements)
     (holds_of IsLinkable keys elements key.0 good key.1) (all_qualifying IsLinkable elements (qualifier_order elements) good) in
-    let good_query = All-filter is_attribute IsLinkable elements good in
+    let good_query = All-filter (is_attribute (key_number elements)) IsLinkable elements good in
     let self = All-contains_itself elements in
     let all : List Element = key.0 ∷ qualifying (qualifier_order elements) elements ++ query_elements elements in
     let within : All (Contains elements) all =
@@ -46,7 +48,7 @@ elements_read domain elements is table some_one rules together =
     (All-cons (Contains elements) key.0 (qualifying (qualifier_order elements) elements)
     (holds_of (Contains elements) keys elements key.0 self key.1)
     (all_qualifying (Contains elements) elements (qualifier_order elements) self))
-    (All-filter is_attribute (Contains elements) elements self) in
+    (All-filter (is_attribute (key_number elements)) (Contains elements) elements self) in
     let kept : All (Contains all) elements =
     subst (λ l. All (Contains l) elements) (ap (λ path. path ++ query_elements elements) path_is) (all_kept elements rules) in
     let P : List Element → Type 0 = λ path. HasParts (link_of domain elements) path (query_elements elements) in
@@ -60,8 +62,9 @@ elements_read domain elements is table some_one rules together =
       linked = record {
         key_is = among_of keys elements key.0 key.1;
         ordered = key_order elements key.0 key.1;
-        attributes = all_attributes elements;
-        once = no_twins (qualifier_order elements) 0 elements rules;
+        attributes = subst (λ n. list_all (is_attribute n) (query_elements elements) ≡ true) number_is
+            (all_attributes (key_number elements) elements);
+        once = no_twins (key_number elements) (excluded_qualifiers elements) 0 elements rules;
         allowed = All-weaker IsLinkable (λ e. element_error 0 e ≡ None) (λ e each. each.allowed)
             (key.0 ∷ qualifying (qualifier_order elements) elements ++ query_elements elements)
             (All-append IsLinkable (key.0 ∷ qualifying (qualifier_order elements) elements) (query_elements elements) good_path good_query);
@@ -128,7 +131,7 @@ unless_other false fault other = other
 qualifier_other : (order : List ℕ) (place n : ℕ) → IsOther (qualifier_fault order place n)
 unfolding qualifier_fault
 qualifier_other order place n =
-    if_other (is_among qualifiers n && not (list_any (λ m. m == n) order)) (WrongQualifier place n)
+    if_other (list_any (λ m. m == n) order) (WrongQualifier place n)
     (λ e. let h : Some (WrongQualifier place n) ≡ Some OutOfMemory = e in cc)
 
 later_other : (place n : ℕ) (later : List Element) → IsOther (later_fault place n later)
@@ -150,9 +153,9 @@ rules_other order place (e ∷ elements) =
 elements_other : (elements : List Element) → IsOther (elements_fault elements)
 unfolding no_key_fault
 elements_other elements =
-    or_other (no_key_fault elements) (first_rule_fault (qualifier_order elements) 0 elements)
+    or_other (no_key_fault elements) (first_rule_fault (excluded_qualifiers elements) 0 elements)
     (unless_other (is_some (first_among keys 0 elements)) NoKey (λ e. let h : Some NoKey ≡ Some OutOfMemory = e in cc))
-    (rules_other (qualifier_order elements) 0 elements)
+    (rules_other (excluded_qualifiers elements) 0 elements)
 
 mapped_other : (error : Option CheckError) → IsOther (option_map (λ error. Elements error) error)
 mapped_other None = none_other

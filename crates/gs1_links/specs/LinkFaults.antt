@@ -108,6 +108,11 @@ path_fault (key ∷ elements) =
     option_or (written_fault 0 key)
     (qualifiers_fault (order_of (number key) false) (order_of (number key) true) 1 elements)
 
+-- The number of the key of a path.
+abbrev pub path_key : List Element → ℕ
+path_key [] = 0
+path_key (key ∷ elements) = number key
+
 -- ---- The query
 
 abbrev pub is_equals : ℕ → Bool
@@ -124,19 +129,22 @@ unfoldable pub equals_fault : ℕ → List ℕ → Option LinkReadError
 equals_fault place part =
     if position_or_len is_equals part == length part then Some (NoEqualsSign place) else None
 
-unfoldable pub attribute_fault : ℕ → Element → Option LinkReadError
-attribute_fault place e = if is_attribute e then None else Some (WrongAttribute place (number e))
+-- An element of the query is a key, or qualifies the key of the link.
+unfoldable pub attribute_fault : ℕ → ℕ → Element → Option LinkReadError
+attribute_fault key place e =
+    if is_attribute key e then None else Some (WrongAttribute place (number e))
 
-abbrev pub part_fault : ℕ → List ℕ → Option LinkReadError
-part_fault place part =
+abbrev pub part_fault : ℕ → ℕ → List ℕ → Option LinkReadError
+part_fault key place part =
     option_or (equals_fault place part)
     (option_or (written_fault place (part_element part))
-    (attribute_fault place (part_element part)))
+    (attribute_fault key place (part_element part)))
 
--- The first fault of the parts of a query, counted from `place`.
-abbrev pub query_fault : ℕ → List (List ℕ) → Option LinkReadError
-query_fault place [] = None
-query_fault place (part ∷ parts) = option_or (part_fault place part) (query_fault (place + 1) parts)
+-- The first fault of the parts of a query beside a key, counted from `place`.
+abbrev pub query_fault : ℕ → ℕ → List (List ℕ) → Option LinkReadError
+query_fault key place [] = None
+query_fault key place (part ∷ parts) =
+    option_or (part_fault key place part) (query_fault key (place + 1) parts)
 
 abbrev pub is_part_of : ℕ → List ℕ → Bool
 is_part_of n part = number (part_element part) == n
@@ -241,7 +249,8 @@ abbrev pub parts_fault : List ℕ → Option LinkReadError
 parts_fault link =
     option_or (front_fault link)
     (option_or (path_fault (path_pairs link))
-    (option_or (query_fault (length (path_pairs link)) (query_parts_of link))
+    (option_or
+    (query_fault (path_key (path_pairs link)) (length (path_pairs link)) (query_parts_of link))
     (twins_fault (length (path_pairs link)) (query_parts_of link))))
 
 -- The first fault of a link: of its parts, or of its elements together.

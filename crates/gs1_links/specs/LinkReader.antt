@@ -72,12 +72,13 @@ pub record HasParts (link : List ℕ) (path query : List Element) : Type 0 where
   pub characters : list_all is_link_character link ≡ true
 
 -- The elements that may stand so: a primary key, qualifiers of this key in their order, and others
--- that are neither, none of them twice. The table allows each, and they may stand together.
+-- that are no keys and do not qualify this one, none of them twice. The table allows each, and they
+-- may stand together.
 pub record AreLinked (key : Element) (qualifying query : List Element) : Type 0 where
   pub key_is : is_among keys (number key) ≡ true
   pub ordered : (follows (map number qualifying) (order_of (number key) false) ≡ true)
       ⊎ (follows (map number qualifying) (order_of (number key) true) ≡ true)
-  pub attributes : list_all is_attribute query ≡ true
+  pub attributes : list_all (is_attribute (number key)) query ≡ true
   pub once : has_twins query ≡ false
   pub allowed : All (λ e. element_error 0 e ≡ None) (key ∷ qualifying ++ query)
   pub together : first_conflict (key ∷ qualifying ++ query) 0 (key ∷ qualifying ++ query) ≡ None

@@ -1,6 +1,6 @@
 -- Links of elements: which elements a link may have, where they stand in it, and its text (GS1
 -- Digital Link Standard: URI Syntax, release 1.4).
-use Rattle.std.specs.Prelude.{◌≡◌, ℕ, ◌+◌, Bool, ◌==◌, ◌&&◌, ◌||◌, not, nat_lt, if◌then◌else◌}
+use Rattle.std.specs.Prelude.{◌≡◌, ℕ, ◌+◌, Bool, true, false, ◌==◌, ◌&&◌, ◌||◌, not, nat_lt, if◌then◌else◌}
 use Rattle.std.specs.Prelude.{List, [], ◌∷◌, ◌++◌, length, Option, None, Some, is_some, unwrap_or}
 use Rattle.std.specs.Prelude.{slice_get}
 use Rattle.std.specs.List.{flat_map, filter, list_any}
@@ -23,19 +23,11 @@ keys =
     (0, 1) ∷ (253, 253) ∷ (255, 255) ∷ (401, 402) ∷ (414, 415) ∷ (417, 417) ∷ (8003, 8004)
     ∷ (8006, 8006) ∷ (8010, 8010) ∷ (8013, 8014) ∷ (8017, 8018) ∷ []
 
--- What qualifies one of them ("Key qualifiers").
-abbrev pub qualifiers : List (ℕ × ℕ)
-qualifiers =
-    (10, 10) ∷ (21, 22) ∷ (235, 235) ∷ (254, 254) ∷ (7040, 7040) ∷ (8011, 8011) ∷ (8019, 8020) ∷ []
-
 abbrev pub number : Element → ℕ
 number e = number_of_identifier e.identifier
 
-abbrev pub is_attribute : Element → Bool
-is_attribute e = not (is_among keys (number e)) && not (is_among qualifiers (number e))
-
--- The qualifiers of a key in the order of the path. The keys 01 and 414 have two sets of them, of
--- which a link has one.
+-- The qualifiers of a key in the order of the path ("Key qualifiers"). The keys 01 and 414 have two
+-- sets of them, of which a link has one.
 unfoldable pub order_of : ℕ → Bool → List ℕ
 order_of key second =
     if key == 1 then (if second then 235 ∷ [] else 22 ∷ 10 ∷ 21 ∷ [])
@@ -46,6 +38,19 @@ order_of key second =
     else (if key == 8010 then 8011 ∷ []
     else (if (key == 8017) || (key == 8018) then 8019 ∷ []
     else []))))))
+
+-- The qualifiers of the set that a link has not.
+unfoldable pub excluded_of : ℕ → Bool → List ℕ
+excluded_of key second = if (key == 1) || (key == 414) then order_of key (not second) else []
+
+-- An identifier qualifies a key.
+abbrev pub qualifies : ℕ → ℕ → Bool
+qualifies key n =
+    list_any (λ m. m == n) (order_of key false) || list_any (λ m. m == n) (order_of key true)
+
+-- Beside this key an element is an attribute: it is no key, and does not qualify this one.
+abbrev pub is_attribute : ℕ → Element → Bool
+is_attribute key e = not (is_among keys (number e)) && not (qualifies key (number e))
 
 -- The qualifier of the second set.
 abbrev pub second_set : ℕ → ℕ
@@ -64,11 +69,24 @@ abbrev pub primary_key : List Element → Option Element
 primary_key elements =
     option_and_then (λ place. slice_get elements place) (first_among keys 0 elements)
 
+abbrev pub key_number : List Element → ℕ
+key_number elements = unwrap_or (option_map number (primary_key elements)) 0
+
+abbrev pub has_second : List Element → ℕ → Bool
+has_second elements key = is_some (place_with (second_set key) elements)
+
 abbrev pub order_for : List Element → ℕ → List ℕ
-order_for elements key = order_of key (is_some (place_with (second_set key) elements))
+order_for elements key = order_of key (has_second elements key)
 
 abbrev pub qualifier_order : List Element → List ℕ
-qualifier_order elements = order_for elements (unwrap_or (option_map number (primary_key elements)) 0)
+qualifier_order elements = order_for elements (key_number elements)
+
+-- The qualifiers of the first key that may not.
+abbrev pub excluded_for : List Element → ℕ → List ℕ
+excluded_for elements key = excluded_of key (has_second elements key)
+
+abbrev pub excluded_qualifiers : List Element → List ℕ
+excluded_qualifiers elements = excluded_for elements (key_number elements)
 
 -- ---- The text
 
@@ -80,7 +98,7 @@ path_elements elements =
 
 -- The elements of the query, in the order in which they are given.
 abbrev pub query_elements : List Element → List Element
-query_elements elements = filter is_attribute elements
+query_elements elements = filter (is_attribute (key_number elements)) elements
 
 -- The elements of a link in the order in which it has them. Example: of
 -- `(17)261231(10)A(01)09506000134352` these are 01, 10 and 17.
@@ -108,11 +126,10 @@ link_of domain elements =
 
 -- ---- The faults
 
--- A qualifier that is none of the key of the link.
+-- A qualifier of the set that the link has not.
 unfoldable pub qualifier_fault : List ℕ → ℕ → ℕ → Option LinkError
-qualifier_fault order place n =
-    if is_among qualifiers n && not (list_any (λ m. m == n) order)
-    then Some (WrongQualifier place n) else None
+qualifier_fault excluded place n =
+    if list_any (λ m. m == n) excluded then Some (WrongQualifier place n) else None
 
 -- A key with a second one after it.
 unfoldable pub second_key_fault : ℕ → ℕ → List Element → Option LinkError
@@ -130,10 +147,10 @@ later_fault place n later =
 
 -- The fault of the first element that has one; the elements are counted from `place`.
 abbrev pub first_rule_fault : List ℕ → ℕ → List Element → Option LinkError
-first_rule_fault order place [] = None
-first_rule_fault order place (e ∷ later) =
-    option_or (qualifier_fault order place (number e))
-    (option_or (later_fault place (number e) later) (first_rule_fault order (place + 1) later))
+first_rule_fault excluded place [] = None
+first_rule_fault excluded place (e ∷ later) =
+    option_or (qualifier_fault excluded place (number e))
+    (option_or (later_fault place (number e) later) (first_rule_fault excluded (place + 1) later))
 
 unfoldable pub no_key_fault : List Element → Option LinkError
 no_key_fault elements = if is_some (first_among keys 0 elements) then None else Some NoKey
@@ -143,7 +160,7 @@ domain_fault domain = if is_domain domain then None else Some WrongDomain
 
 abbrev pub elements_fault : List Element → Option LinkError
 elements_fault elements =
-    option_or (no_key_fault elements) (first_rule_fault (qualifier_order elements) 0 elements)
+    option_or (no_key_fault elements) (first_rule_fault (excluded_qualifiers elements) 0 elements)
 
 -- The first fault of elements that may not stand together.
 unfoldable pub together_fault : List Element → Option LinkError

@@ -9,11 +9,13 @@ ghost use Rattle.gs1.specs.Values.{text_error};
 ghost use Rattle.gs1_base.specs.Domains.{is_domain};
 ghost use Rattle.gs1_links.specs.Links.{domain_fault, text_length_fault, together_fault};
 ghost use Rattle.gs1_links.specs.Links.{link_error, IsRefusedLink, link_of, linked, path_text, query_text};
-ghost use Rattle.gs1_links.specs.Links.{path_elements, query_elements, primary_key, element_with, is_attribute};
+ghost use Rattle.gs1_links.specs.Links.{path_elements, primary_key, element_with, is_attribute};
 ghost use Rattle.gs1_links.specs.LinkReader.{ReadsLink};
 
 use crate::link_error::LinkError;
-use crate::link_rules::{check_elements, element_with, is_attribute, primary_key, qualifier_order};
+use crate::link_rules::{
+    check_elements, element_with, is_attribute, key_number, primary_key, qualifier_order,
+};
 use gs1::strings::element_of;
 use gs1::together::{LONGEST_TEXT, check_all};
 use gs1::values::check_text;
@@ -25,7 +27,8 @@ use std::alloc::{AllocError, Global};
 /// Returns the link of the elements of a text such as `(01)09506000134352(10)ABC(17)261231`, here
 /// `https://DOMAIN/01/09506000134352/10/ABC?17=261231` (GS1 Digital Link Standard: URI Syntax,
 /// release 1.4, uncompressed form): the primary key, then its qualifiers in the order of the
-/// standard, and the other elements as a query, in the order in which they are given. Of values,
+/// standard, and the other elements as a query, in the order in which they are given, also those
+/// that qualify another key. Of values,
 /// letters, digits and `-._~` stand as they are, and each other character as a percent sign and two
 /// capital hexadecimal digits.
 ///
@@ -38,8 +41,8 @@ use std::alloc::{AllocError, Global};
 /// `TextTooLong` if the text has more than 11815 bytes. `Elements` with the error of
 /// `checked_element_string` if the table of identifiers does not allow the elements. `WrongDomain`
 /// if the domain is none. `NoKey` if no element is a primary key. Else the fault of the first
-/// element that has one: `WrongQualifier` if it qualifies keys, but not the key of this link, or
-/// not beside another qualifier; `SecondKey` if it is a primary key with another one after it;
+/// element that has one: `WrongQualifier` if it qualifies the key of this link, but not beside
+/// another of its qualifiers; `SecondKey` if it is a primary key with another one after it;
 /// `RepeatedElement` if its identifier stands once more after it. Else `Together` with the error of
 /// `check_together` if the elements may not stand together. `OutOfMemory` if there is no fault and
 /// an allocation failed.
@@ -124,7 +127,7 @@ fn link_of(alloc: Global, text: &[u8], domain: &[u8]) -> Result<Vec<u8>, AllocEr
     link.extend_from_slice(b"https://")?;
     link.extend_from_slice(domain)?;
     push_path(&mut link, text)?;
-    push_query(&mut link, behind(text, 0))?;
+    push_query(&mut link, key_number(text), behind(text, 0))?;
     Ok(link)
 }
 
@@ -174,16 +177,17 @@ fn push_segments(link: &mut Vec<u8>, identifier: &[u8], value: &[u8]) -> Result<
     push_escaped(link, value)
 }
 
-/// Appends the query of the elements that are written behind a first opening bracket.
-fn push_query(link: &mut Vec<u8>, text: &[u8]) -> Result<(), AllocError>
-    ensures { OnOk result (link.new.items
-        ≡ link.old.items ++ query_text 0x3f (query_elements (elements_behind text.now))) }
+/// Appends the query of the elements, beside this key, that are written behind a first opening
+/// bracket.
+fn push_query(link: &mut Vec<u8>, key: usize, text: &[u8]) -> Result<(), AllocError>
+    ensures { OnOk result (link.new.items ≡ link.old.items
+        ++ query_text 0x3f (filter (is_attribute key) (elements_behind text.now))) }
 {
     let mut rest = text;
     let mut separator = b'?';
     loop {
         let end = first_of(rest, b'(');
-        separator = push_attribute(link, separator, &rest[..end])?;
+        separator = push_attribute(link, separator, key, &rest[..end])?;
         if end == rest.len() {
             return Ok(());
         }
@@ -193,12 +197,17 @@ fn push_query(link: &mut Vec<u8>, text: &[u8]) -> Result<(), AllocError>
 
 /// Appends the element that is written between two opening brackets, if it stands in the query, and
 /// returns the separator before the next one.
-fn push_attribute(link: &mut Vec<u8>, separator: u8, part: &[u8]) -> Result<u8, AllocError>
+fn push_attribute(
+    link: &mut Vec<u8>,
+    separator: u8,
+    key: usize,
+    part: &[u8],
+) -> Result<u8, AllocError>
     ensures { IfOk result (λ next. (later : List SpecElement) →
-        link.new.items ++ query_text next (filter is_attribute later) ≡ link.old.items
-        ++ query_text separator (filter is_attribute (element_of part.now ∷ later))) }
+        link.new.items ++ query_text next (filter (is_attribute key) later) ≡ link.old.items
+        ++ query_text separator (filter (is_attribute key) (element_of part.now ∷ later))) }
 {
-    if !is_attribute(part) {
+    if !is_attribute(key, part) {
         return Ok(separator);
     }
     let element = element_of(part);

@@ -24,8 +24,8 @@ pub enum LinkError {
     /// This element is a primary key, and there is another after it.
     #[error("element {element} is a primary key, and there is another after it")]
     SecondKey { element: usize },
-    /// This element qualifies another key, or may not stand beside another qualifier.
-    #[error("element {element} ({identifier:02}) is no qualifier of the key")]
+    /// This element qualifies the key, and may not stand beside another of its qualifiers.
+    #[error("element {element} ({identifier:02}) may not stand beside another qualifier")]
     WrongQualifier { element: usize, identifier: usize },
     /// The identifier of this element stands once more after it.
     #[error("element {element} ({identifier:02}): the identifier stands once more after it")]
@@ -89,7 +89,7 @@ pub enum LinkReadError {
     /// The element stands in the path, but is no qualifier of the key, or not in this order.
     #[error("element {element} ({identifier:02}) is no qualifier of the key at this place")]
     WrongQualifier { element: usize, identifier: usize },
-    /// The element stands in the query, but is a primary key or a qualifier.
+    /// The element stands in the query, but is a primary key or qualifies the key of the link.
     #[error("element {element} ({identifier:02}) is a key or a qualifier, and stands in the query")]
     WrongAttribute { element: usize, identifier: usize },
     /// The identifier of this element stands once more after it.

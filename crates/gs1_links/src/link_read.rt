@@ -7,7 +7,7 @@ ghost use Rattle.std.specs.Option.{option_map, option_map_or};
 ghost use Rattle.std.specs.Result.{result_err};
 ghost use Rattle.gs1_links.specs.Links.{number, order_of};
 ghost use Rattle.gs1_links.specs.LinkReader.{is_slash, is_ampersand, ReadsLink};
-ghost use Rattle.gs1_links.specs.LinkFaults.{cut_parts, pairs, order_fault, path_fault, part_element};
+ghost use Rattle.gs1_links.specs.LinkFaults.{cut_parts, pairs, order_fault, path_fault, part_element, path_key};
 ghost use Rattle.gs1_links.specs.LinkFaults.{qualifiers_fault};
 ghost use Rattle.gs1_links.specs.LinkFaults.{part_fault, equals_fault, attribute_fault, query_fault};
 ghost use Rattle.gs1_links.specs.LinkFaults.{is_part_of, twin_fault, twins_fault, decoded_element};
@@ -64,7 +64,8 @@ pub fn elements_of_link<'a>(
     let parts = cut_link(link)?;
     let count = check_path(parts.path)?;
     let query = query_left(parts.query);
-    check_query(count, query)?;
+    let key = path_key(parts.path);
+    check_query(key, count, query)?;
     check_twins(count, query)?;
     check_together(parts)?;
     let mut elements = Vec::new(alloc);
@@ -148,6 +149,16 @@ fn check_path(path: &[u8]) -> Result<usize, LinkReadError>
     check_qualifiers(number_of(key.identifier), key.rest)
 }
 
+/// Returns the number of the key of a path.
+fn path_key(path: &[u8]) -> usize
+    ensures { result ≡ path_key (pairs (slice_split is_slash path.now)) }
+{
+    match next_pair(Some(path)) {
+        Some(key) => number_of(key.identifier),
+        None => 0,
+    }
+}
+
 /// Checks that a part of a query has an equals sign.
 #[tactic(auto, unfolding(crate::specs::LinkFaults::equals_fault))]
 fn check_equals(element: usize, part: &[u8]) -> Result<(), LinkReadError>
@@ -159,14 +170,14 @@ fn check_equals(element: usize, part: &[u8]) -> Result<(), LinkReadError>
     Ok(())
 }
 
-/// Checks that an element is neither a key nor a qualifier.
+/// Checks that an element is no key and does not qualify this one.
 #[tactic(auto, unfolding(crate::specs::LinkFaults::attribute_fault))]
-fn check_attribute(element: usize, part: Element<'_>) -> Result<(), LinkReadError>
-    ensures { result_err result ≡ attribute_fault element
+fn check_attribute(key: usize, element: usize, part: Element<'_>) -> Result<(), LinkReadError>
+    ensures { result_err result ≡ attribute_fault key element
         (record { identifier = part.entry.identifier.now; value = part.entry.value.now }) }
 {
     let identifier = number_of(part.identifier);
-    if is_attribute_number(identifier) {
+    if is_attribute_number(key, identifier) {
         return Ok(());
     }
     Err(LinkReadError::WrongAttribute {
@@ -175,28 +186,28 @@ fn check_attribute(element: usize, part: Element<'_>) -> Result<(), LinkReadErro
     })
 }
 
-/// Checks a part of a query.
-fn check_part(element: usize, part: &[u8]) -> Result<(), LinkReadError>
-    ensures { result_err result ≡ part_fault element part.now }
+/// Checks a part of a query beside this key.
+fn check_part(key: usize, element: usize, part: &[u8]) -> Result<(), LinkReadError>
+    ensures { result_err result ≡ part_fault key element part.now }
 {
     check_equals(element, part)?;
     let written = part_element(part);
     check_written(element, written.identifier, written.value)?;
-    check_attribute(element, written)
+    check_attribute(key, element, written)
 }
 
-/// Checks the parts of a query, which are counted from `first`.
-fn check_query(first: usize, query: Option<&[u8]>) -> Result<(), LinkReadError>
+/// Checks the parts of a query beside this key, which are counted from `first`.
+fn check_query(key: usize, first: usize, query: Option<&[u8]>) -> Result<(), LinkReadError>
     requires first { first < 2 ^ 63 }
     requires size { option_map_or (λ t. length t.now + 1) query 0 ≤ 2 ^ 63 }
     ensures { result_err result
-        ≡ query_fault first (cut_parts is_ampersand (option_map (λ t. t.now) query.entry)) }
+        ≡ query_fault key first (cut_parts is_ampersand (option_map (λ t. t.now) query.entry)) }
 {
     let mut rest = query;
     let mut element = first;
     while let Some(text) = rest {
         let part = cut_at(text, b'&');
-        check_part(element, part.front)?;
+        check_part(key, element, part.front)?;
         rest = part.rest;
         element += 1;
     }

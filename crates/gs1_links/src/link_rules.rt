@@ -1,11 +1,10 @@
 //! Which elements a link may have, and where they stand in it.
-ghost use Rattle.std.specs.Prelude.{◌≡◌, ◌&&◌, not, None, Some, IfNone, IfSome, unwrap_or};
-ghost use Rattle.std.specs.Option.{option_map};
+ghost use Rattle.std.specs.Prelude.{◌≡◌, ◌&&◌, not, None, Some, IfNone, IfSome};
 ghost use Rattle.std.specs.Result.{result_err};
 ghost use Rattle.gs1.specs.Elements.{element_of, elements_behind, written_elements};
-ghost use Rattle.gs1_links.specs.Links.{keys, qualifiers, order_of, second_set, element_with};
-ghost use Rattle.gs1_links.specs.Links.{primary_key, qualifier_order};
-ghost use Rattle.gs1_links.specs.Links.{number, qualifier_fault, second_key_fault, repeated_fault};
+ghost use Rattle.gs1_links.specs.Links.{keys, order_of, excluded_of, second_set, element_with};
+ghost use Rattle.gs1_links.specs.Links.{primary_key, key_number, has_second, qualifier_order};
+ghost use Rattle.gs1_links.specs.Links.{excluded_qualifiers, qualifies, qualifier_fault, second_key_fault, repeated_fault};
 ghost use Rattle.gs1_links.specs.Links.{later_fault, first_rule_fault, no_key_fault, elements_fault};
 ghost use Rattle.gs1_links.specs.Links.{is_attribute};
 ghost use Rattle.gs1.specs.Together.{is_among};
@@ -35,21 +34,6 @@ fn keys() -> &'static [(usize, usize)]
     ]
 }
 
-/// Returns the ranges of the qualifiers of keys.
-fn qualifiers() -> &'static [(usize, usize)]
-    ensures { result.now ≡ qualifiers }
-{
-    &[
-        (10, 10),
-        (21, 22),
-        (235, 235),
-        (254, 254),
-        (7040, 7040),
-        (8011, 8011),
-        (8019, 8020),
-    ]
-}
-
 /// Returns whether an identifier is a primary key.
 pub(crate) fn is_key(number: usize) -> bool
     ensures { result ≡ is_among keys number }
@@ -57,18 +41,25 @@ pub(crate) fn is_key(number: usize) -> bool
     is_among(keys(), number)
 }
 
-/// Returns whether an identifier is neither a primary key nor a qualifier.
-pub(crate) fn is_attribute_number(number: usize) -> bool
-    ensures { result ≡ (not (is_among keys number) && not (is_among qualifiers number)) }
+/// Returns whether an identifier qualifies a key.
+fn qualifies(key: usize, number: usize) -> bool
+    ensures { result ≡ qualifies key number }
 {
-    !is_among(keys(), number) && !is_among(qualifiers(), number)
+    order_of(key, false).contains(&number) || order_of(key, true).contains(&number)
+}
+
+/// Returns whether an identifier is no primary key and does not qualify this one.
+pub(crate) fn is_attribute_number(key: usize, number: usize) -> bool
+    ensures { result ≡ (not (is_among keys number) && not (qualifies key number)) }
+{
+    !is_key(number) && !qualifies(key, number)
 }
 
 /// Returns whether an element that is written between opening brackets stands in the query.
-pub(crate) fn is_attribute(part: &[u8]) -> bool
-    ensures { result ≡ is_attribute (element_of part.now) }
+pub(crate) fn is_attribute(key: usize, part: &[u8]) -> bool
+    ensures { result ≡ is_attribute key (element_of part.now) }
 {
-    is_attribute_number(number_at(part))
+    is_attribute_number(key, number_at(part))
 }
 
 /// Returns the qualifiers of a key in the order of the path, of the first or of the second set.
@@ -84,6 +75,17 @@ pub(crate) fn order_of(key: usize, second: bool) -> &'static [usize]
         415 => &[8020],
         8010 => &[8011],
         8017 | 8018 => &[8019],
+        _ => &[],
+    }
+}
+
+/// Returns the qualifiers of a key that its link has not, beside the first or the second set.
+#[tactic(auto, unfolding(crate::specs::Links::excluded_of))]
+fn excluded_of(key: usize, second: bool) -> &'static [usize]
+    ensures { result.now ≡ excluded_of key second }
+{
+    match key {
+        1 | 414 => order_of(key, !second),
         _ => &[],
     }
 }
@@ -116,8 +118,8 @@ pub(crate) fn primary_key<'a>(text: &'a [u8]) -> Option<Element<'a>>
 }
 
 /// Returns the number of the identifier of the first primary key, or 0.
-fn key_number(text: &[u8]) -> usize
-    ensures { result ≡ unwrap_or (option_map number (primary_key (written_elements text.now))) 0 }
+pub(crate) fn key_number(text: &[u8]) -> usize
+    ensures { result ≡ key_number (written_elements text.now) }
 {
     match primary_key(text) {
         Some(key) => number_of(key.identifier),
@@ -125,24 +127,36 @@ fn key_number(text: &[u8]) -> usize
     }
 }
 
+/// Returns whether a text has the second set of the qualifiers of a key.
+fn has_second(key: usize, text: &[u8]) -> bool
+    ensures { result ≡ has_second (written_elements text.now) key }
+{
+    let second = second_set(key);
+    first_among(&[(second, second)], behind(text, 0)).is_some()
+}
+
 /// Returns the qualifiers that may stand in the link of a text, in their order.
 pub(crate) fn qualifier_order(text: &[u8]) -> &'static [usize]
     ensures { result.now ≡ qualifier_order (written_elements text.now) }
 {
     let key = key_number(text);
-    let second = second_set(key);
-    order_of(
-        key,
-        first_among(&[(second, second)], behind(text, 0)).is_some(),
-    )
+    order_of(key, has_second(key, text))
 }
 
-/// Checks that an element is no qualifier of another key.
-#[tactic(auto, unfolding(crate::specs::Links::qualifier_fault))]
-fn check_qualifier(order: &[usize], element: usize, identifier: usize) -> Result<(), LinkError>
-    ensures { result_err result ≡ qualifier_fault order.now element identifier }
+/// Returns the qualifiers of the key of a text that may not stand in its link.
+fn excluded_qualifiers(text: &[u8]) -> &'static [usize]
+    ensures { result.now ≡ excluded_qualifiers (written_elements text.now) }
 {
-    if is_among(qualifiers(), identifier) && !order.contains(&identifier) {
+    let key = key_number(text);
+    excluded_of(key, has_second(key, text))
+}
+
+/// Checks that an element is none of the qualifiers that a link has not.
+#[tactic(auto, unfolding(crate::specs::Links::qualifier_fault))]
+fn check_qualifier(excluded: &[usize], element: usize, identifier: usize) -> Result<(), LinkError>
+    ensures { result_err result ≡ qualifier_fault excluded.now element identifier }
+{
+    if excluded.contains(&identifier) {
         return Err(LinkError::WrongQualifier {
             element,
             identifier,
@@ -169,15 +183,15 @@ fn check_later(element: usize, identifier: usize, later: &[u8]) -> Result<(), Li
 }
 
 /// Checks the elements that are written behind a first opening bracket.
-fn check_rules(order: &[usize], text: &[u8]) -> Result<(), LinkError>
-    ensures { result_err result ≡ first_rule_fault order.now 0 (elements_behind text.now) }
+fn check_rules(excluded: &[usize], text: &[u8]) -> Result<(), LinkError>
+    ensures { result_err result ≡ first_rule_fault excluded.now 0 (elements_behind text.now) }
 {
     let mut rest = text;
     let mut element = 0;
     loop {
         let end = first_of(rest, b'(');
         let identifier = number_at(&rest[..end]);
-        check_qualifier(order, element, identifier)?;
+        check_qualifier(excluded, element, identifier)?;
         if end == rest.len() {
             return Ok(());
         }
@@ -203,5 +217,5 @@ pub(crate) fn check_elements(text: &[u8]) -> Result<(), LinkError>
     ensures { result_err result ≡ elements_fault (written_elements text.now) }
 {
     check_key(behind(text, 0))?;
-    check_rules(qualifier_order(text), behind(text, 0))
+    check_rules(excluded_qualifiers(text), behind(text, 0))
 }

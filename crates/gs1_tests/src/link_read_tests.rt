@@ -22,7 +22,7 @@ fn read(alloc: Global, link: &[u8]) -> Option<Vec<u8>> {
 }
 
 /// Links and their elements. The first are examples of the standard, as remembered.
-static LINKS: [(&str, &str); 13] = [
+static LINKS: [(&str, &str); 15] = [
     ("https://id.gs1.org/01/09506000134352", "(01)09506000134352"),
     (
         "https://id.gs1.org/01/09506000134352/10/ABC123?17=201231",
@@ -64,6 +64,15 @@ static LINKS: [(&str, &str); 13] = [
         "https://x/401/9506000X?91=a=b/c?d",
         "(401)9506000X(91)a=b/c?d",
     ),
+    // What qualifies another key is an attribute: of a logistic unit, and of a trade item.
+    (
+        "https://example.com/00/106141412345678908?02=09506000134352&37=25&10=ABC123",
+        "(00)106141412345678908(02)09506000134352(37)25(10)ABC123",
+    ),
+    (
+        "https://x/01/09506000134352/21/7?7040=1ABC",
+        "(01)09506000134352(21)7(7040)1ABC",
+    ),
     // The last key counts, and stems may look like elements.
     ("https://x/10/A/01/09506000134352?", "(01)09506000134352"),
     ("https://x/01/01/09506000134352", "(01)09506000134352"),
@@ -91,9 +100,10 @@ fn prints_why_a_link_is_not_read(rt: HostRuntime) {
 }
 
 /// Texts in the order of links.
-static TEXTS: [&str; 4] = [
+static TEXTS: [&str; 5] = [
     "(01)09506000134352(22)V(10)A/(21)1(3103)000195(17)261231",
     "(00)106141412345678908(02)09506000134352(37)20",
+    "(00)106141412345678908(02)09506000134352(37)20(10)ABC",
     "(8006)095060001343520102(10)!\"'.-_",
     "(401)9506000X(91)a/b%",
 ];
@@ -160,7 +170,7 @@ static FAULTS: [(&str, LinkReadError); 20] = [
 ];
 
 /// Links whose elements have a fault.
-static ELEMENT_FAULTS: [(&str, LinkReadError); 16] = [
+static ELEMENT_FAULTS: [(&str, LinkReadError); 18] = [
     (
         "https://x/01/09506000134351",
         LinkReadError::Elements(CheckError::WrongValue {
@@ -226,6 +236,21 @@ static ELEMENT_FAULTS: [(&str, LinkReadError); 16] = [
             element: 1,
             identifier: 10,
         },
+    ),
+    // The second set of qualifiers is one of this key, too, and a batch needs a trade item.
+    (
+        "https://x/01/09506000134352/10/A?235=A",
+        LinkReadError::WrongAttribute {
+            element: 2,
+            identifier: 235,
+        },
+    ),
+    (
+        "https://x/00/106141412345678908?10=A",
+        LinkReadError::Together(TogetherError::MissingElement {
+            element: 1,
+            identifier: 10,
+        }),
     ),
     (
         "https://x/01/09506000134352?00=106141412345678908",

@@ -4,7 +4,7 @@ use gs1_links::{LinkError, PercentError, digital_link, percent_decoded, percent_
 use std::alloc::Global;
 
 /// Texts, domains and links. The first two are examples of the standard, as remembered.
-static LINKS: [(&str, &str, &str); 19] = [
+static LINKS: [(&str, &str, &str); 21] = [
     (
         "(01)09506000134352",
         "id.gs1.org",
@@ -29,6 +29,17 @@ static LINKS: [(&str, &str, &str); 19] = [
         "(00)106141412345678908(02)09506000134352(37)20",
         "id.gs1.org",
         "https://id.gs1.org/00/106141412345678908?02=09506000134352&37=20",
+    ),
+    // What qualifies another key is an attribute.
+    (
+        "(00)106141412345678908(02)09506000134352(37)20(10)ABC",
+        "id.gs1.org",
+        "https://id.gs1.org/00/106141412345678908?02=09506000134352&37=20&10=ABC",
+    ),
+    (
+        "(7040)1ABC(10)A(01)09506000134352",
+        "x",
+        "https://x/01/09506000134352/10/A?7040=1ABC",
     ),
     (
         "(3103)000195(21)1(17)261231(10)A(01)09506000134352(22)V",
@@ -152,13 +163,14 @@ static FAULTS: [(&str, &str, LinkError); 29] = [
         "a",
         LinkError::SecondKey { element: 0 },
     ),
+    // A batch needs a trade item.
     (
         "(00)106141412345678908(10)A",
         "a",
-        LinkError::WrongQualifier {
+        LinkError::Together(TogetherError::MissingElement {
             element: 1,
             identifier: 10,
-        },
+        }),
     ),
     (
         "(10)A(01)09506000134352(235)B",

@@ -164,8 +164,8 @@ static REFUSED: [(&[u8], &str); 9] = [
         "no element is the key of a link, as (01), (00) or (414) are",
     ),
     (
-        b"(01)09506000134352(254)A",
-        "(254), element 2: no qualifier of the link's key, or not beside another one",
+        b"(01)09506000134352(10)A(235)B",
+        "(10), element 2: no qualifier of the link's key, or not beside another one",
     ),
     (
         b"(01)09506000134352(17)261231(17)261231",

@@ -1,7 +1,7 @@
 -- Why there is no link is never that an allocation failed, and no domain is a text that is
 -- not UTF-8.
 use Rattle.std.proofs.Common.{◌≡◌, ◌∙◌, refl, sym, ap, arith}
-use Rattle.std.specs.Prelude.{ℕ, ◌+◌, ◌<◌, Bool, true, false, not, List, [], ◌∷◌, length, All, Option, Some, None, if◌then◌else◌}
+use Rattle.std.specs.Prelude.{ℕ, ◌+◌, ◌<◌, Bool, true, false, List, [], ◌∷◌, length, All, Option, Some, None, if◌then◌else◌}
 use Rattle.std.specs.Prelude.{◌&&◌, ◌||◌, ◌==◌, nat_lt, is_some, Result, Ok, Err, IfOk, OnOk, IfErr}
 use Rattle.std.specs.Option.{option_or, option_map}
 use Rattle.std.specs.List.{list_any, list_all, before_first, after_first, position_or_len}
@@ -13,9 +13,9 @@ use Rattle.std.proofs.lemmas.List.Elements.{All-cons, All-nil}
 use Rattle.gs1.specs.Elements.{Element, written_elements}
 use Rattle.gs1_base.specs.Domains.{is_colon}
 use Rattle.gs1_base.specs.Domains.{is_domain, is_domain_character, are_labels, is_port}
-use Rattle.gs1_links.specs.Links.{keys, qualifiers, number, domain_fault, text_length_fault, no_key_fault}
+use Rattle.gs1_links.specs.Links.{keys, number, domain_fault, text_length_fault, no_key_fault}
 use Rattle.gs1_links.specs.Links.{qualifier_fault, second_key_fault, repeated_fault, later_fault, place_with}
-use Rattle.gs1_links.specs.Links.{first_rule_fault, elements_fault, qualifier_order, link_error, IsRefusedLink}
+use Rattle.gs1_links.specs.Links.{first_rule_fault, elements_fault, excluded_qualifiers, link_error, IsRefusedLink}
 use Rattle.gs1_links.specs.Links.{together_fault, linking_fault}
 use Rattle.gs1.specs.Together.{first_conflict}
 use Rattle.gs1.specs.declared.together.TogetherError.{TogetherError}
@@ -53,7 +53,7 @@ unless_other false fault other = other
 qualifier_other : (order : List ℕ) (place n : ℕ) → IsOther (qualifier_fault order place n)
 unfolding qualifier_fault
 qualifier_other order place n =
-    if_other (is_among qualifiers n && not (list_any (λ m. m == n) order)) (WrongQualifier place n)
+    if_other (list_any (λ m. m == n) order) (WrongQualifier place n)
     (λ e. let h : Some (WrongQualifier place n) ≡ Some (Elements NoMemory) = e in cc)
 
 later_other : (place n : ℕ) (later : List Element) → IsOther (later_fault place n later)
@@ -75,9 +75,9 @@ rules_other order place (e ∷ elements) =
 elements_other : (elements : List Element) → IsOther (elements_fault elements)
 unfolding no_key_fault
 elements_other elements =
-    or_other (no_key_fault elements) (first_rule_fault (qualifier_order elements) 0 elements)
+    or_other (no_key_fault elements) (first_rule_fault (excluded_qualifiers elements) 0 elements)
     (unless_other (is_some (first_among keys 0 elements)) NoKey (λ e. let h : Some NoKey ≡ Some (Elements NoMemory) = e in cc))
-    (rules_other (qualifier_order elements) 0 elements)
+    (rules_other (excluded_qualifiers elements) 0 elements)
 
 together_other : (elements : List Element) → IsOther (together_fault elements)
 unfolding together_fault
