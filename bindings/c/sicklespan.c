@@ -586,7 +586,7 @@ const char *sicklespan_status_text(int32_t status) {
     case SICKLESPAN_NO_KEY: return "no element is the key of a link, as (01), (00) or (414) are";
     case SICKLESPAN_SECOND_KEY: return "a link has one key, and there is another";
     case SICKLESPAN_WRONG_QUALIFIER:
-        return "an element qualifies another key than that of the link";
+        return "a qualifier of the key may not stand beside another one";
     case SICKLESPAN_REPEATED_ELEMENT: return "an identifier stands twice in a link";
     case SICKLESPAN_MISSING_ELEMENT: return "an element that has to stand beside it is missing";
     case SICKLESPAN_CONFLICTING_ELEMENT: return "an element may not stand beside another one";

@@ -67,7 +67,7 @@ enum sicklespan_status {
     SICKLESPAN_WRONG_DOMAIN = 25,       /* the domain is no host name, with a port or without */
     SICKLESPAN_NO_KEY = 26,             /* no element is the key of a link, as (01) or (00) are */
     SICKLESPAN_SECOND_KEY = 27,         /* an element is a key of links, and another after it */
-    SICKLESPAN_WRONG_QUALIFIER = 28,    /* an element qualifies another key than that of the link */
+    SICKLESPAN_WRONG_QUALIFIER = 28,    /* a qualifier of the key may not stand beside another one */
     SICKLESPAN_REPEATED_ELEMENT = 29,   /* an identifier stands twice in a link */
     SICKLESPAN_MISSING_ELEMENT = 30,    /* an element needs one that is not in the link */
     SICKLESPAN_CONFLICTING_ELEMENT = 31,  /* an element may not stand beside another in the link */
@@ -150,11 +150,12 @@ int32_t sicklespan_auto(const void *data, size_t length, const sicklespan_option
 
 /*
  * The smallest symbol of a text, whose `length` bytes are UTF-8: in the modes, and after the ECI
- * designators of ISO/IEC 8859, Shift JIS and UTF-8, that take the fewest bits. A reader that
- * follows the standard finds the text in it, and no symbol that is read as the text, at the level,
- * is smaller. Some readers also take ISO/IEC 8859-1 without a designator, pairs in the Kanji mode
- * after one, or other character sets, such as Big5 and GB 18030: no use is made of these, with
- * which a symbol may be smaller. Level, versions and `strongest` are as of sicklespan_bytes.
+ * designators of ISO/IEC 8859 (but parts 10 and 14), Shift JIS and UTF-8, that take the fewest
+ * bits. A reader that follows the standard finds the text in it, and no symbol that is read as the
+ * text, at the level, is smaller. Some readers also take ISO/IEC 8859-1 without a designator, pairs
+ * in the Kanji mode after one, or other character sets, such as Big5 and GB 18030: no use is made
+ * of these, with which a symbol may be smaller. Level, versions and `strongest` are as of
+ * sicklespan_bytes.
  *
  * SICKLESPAN_INVALID_LEVEL, SICKLESPAN_INVALID_VERSIONS, SICKLESPAN_INVALID_TEXT,
  * SICKLESPAN_DATA_TOO_LONG (only where nothing that is read as the text fits a version up to the

@@ -32,7 +32,7 @@ static void test_words(void) {
         [SICKLESPAN_WRONG_DOMAIN] = "the domain is no host name, with a port or without",
         [SICKLESPAN_NO_KEY] = "no element is the key of a link, as (01), (00) or (414) are",
         [SICKLESPAN_SECOND_KEY] = "a link has one key, and there is another",
-        [SICKLESPAN_WRONG_QUALIFIER] = "an element qualifies another key than that of the link",
+        [SICKLESPAN_WRONG_QUALIFIER] = "a qualifier of the key may not stand beside another one",
         [SICKLESPAN_REPEATED_ELEMENT] = "an identifier stands twice in a link",
         [SICKLESPAN_MISSING_ELEMENT] = "an element that has to stand beside it is missing",
         [SICKLESPAN_CONFLICTING_ELEMENT] = "an element may not stand beside another one",

@@ -101,8 +101,8 @@ static int32_t link_status(const char *text, const char *domain) {
 }
 
 static void test_worked_links(void) {
-    EXPECT(link_status("(10)A(00)106141412345678908", "a.b") == SICKLESPAN_WRONG_QUALIFIER &&
-           fault.element == 1 && fault.identifier == 10);
+    EXPECT(link_status("(01)09506000134352(10)A(235)B", "a.b") == SICKLESPAN_WRONG_QUALIFIER &&
+           fault.element == 2 && fault.identifier == 10);
     EXPECT(link_status("(01)09506000134352(8017)095060001343520000", "a.b") ==
            SICKLESPAN_SECOND_KEY);
     EXPECT(link_status("(01)09506000134352(10)A(10)A", "a.b") == SICKLESPAN_REPEATED_ELEMENT);

@@ -131,7 +131,7 @@ class SecondKeyError(ElementError):
 
 
 class WrongQualifierError(ElementError):
-    """An element qualifies another key than that of the link."""
+    """A qualifier of the key may not stand beside another one."""
 
 
 class RepeatedElementError(ElementError):

@@ -118,11 +118,12 @@ def make(content: Content, error: Optional[str] = None, version: Optional[int] =
     content fits at the level. With `micro` True it is one, or an error.
 
     A text of ASCII is encoded as it is. Any other text is written in the modes, and after the ECI
-    designators of ISO/IEC 8859, Shift JIS and UTF-8, that take the fewest bits: no symbol that is
-    read as the text is smaller. `text` writes UTF-8. The symbol of bytes does not say which
-    characters they are, and pairs of them go in the Kanji mode: where they are UTF-8 beyond ASCII,
-    as `str.encode` returns, readers may show other characters. With `kanji` False none of them do:
-    it is for bytes, and for no Micro symbol, so that `micro` None makes none then.
+    designators of ISO/IEC 8859 (but parts 10 and 14), Shift JIS and UTF-8, that take the fewest
+    bits: no symbol that is read as the text is smaller. `text` writes UTF-8. The symbol of bytes
+    does not say which characters they are, and pairs of them go in the Kanji mode: where they are
+    UTF-8 beyond ASCII, as `str.encode` returns, readers may show other characters. With `kanji`
+    False none of them do: it is for bytes, and for no Micro symbol, so that `micro` None makes none
+    then.
     """
     options = _options(error, version, min_version, max_version, boost_error)
     if not kanji:

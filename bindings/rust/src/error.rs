@@ -112,7 +112,7 @@ pub enum Error {
     NoKey,
     /// An element is a key of links, and there is another after it.
     SecondKey(Fault),
-    /// An element qualifies another key than that of the link.
+    /// A qualifier of the key may not stand beside another one.
     WrongQualifier(Fault),
     /// The identifier of an element stands once more after it.
     RepeatedElement(Fault),

@@ -155,9 +155,9 @@ impl Symbol {
     }
 
     /// Returns the smallest symbol of a text at a level: in the modes, and after the ECI
-    /// designators of ISO/IEC 8859, Shift JIS and UTF-8, that take the fewest bits. A reader that
-    /// follows the standard finds the text in it, and no symbol that is read as the text, at the
-    /// level, is smaller.
+    /// designators of ISO/IEC 8859 (but parts 10 and 14), Shift JIS and UTF-8, that take the fewest
+    /// bits. A reader that follows the standard finds the text in it, and no symbol that is read as
+    /// the text, at the level, is smaller.
     ///
     /// ```
     /// # use sicklespan::{Level, Symbol, Version};

@@ -60,7 +60,7 @@ pub enum Refusal {
     NoKey = 26,
     /// An element is the key of a link, and there is another after it.
     SecondKey = 27,
-    /// An element qualifies another key than that of the link.
+    /// A qualifier of the key may not stand beside another one.
     WrongQualifier = 28,
     /// The identifier of an element of a link stands once more after it.
     RepeatedElement = 29,
