@@ -411,7 +411,7 @@ fn draws_links() {
             "element 1: a link has one key, and there is another",
         ),
         (
-            "(00)106141412345678908(10)A",
+            "(01)09506000134352(10)A(235)B",
             "element 2 (10): an element qualifies another key than that of the link",
         ),
         ("(10)A(01)09506000134352(10)A", "element 1 (10): an identifier stands twice in a link"),
