@@ -66,9 +66,20 @@ impl<'a> WholeFile<'a> {
     /// the system gives. Then the file has the content that it had, unless it was written in place.
     /// No part is left.
     pub fn finish(self) -> Result<(), ErrorKind> {
+        if let Place::Part { .. } = &self.place
+            && let Err(error) = self.file.sync_all()
+        {
+            self.discard();
+            return Err(error.kind());
+        }
+        self.end()
+    }
+
+    /// Does what `finish` does, but does not wait until the system has stored the content.
+    fn end(self) -> Result<(), ErrorKind> {
         let WholeFile { rt, file, place } = self;
         let result = match &place {
-            Place::Part { part, name } => store(rt, &file, part, name),
+            Place::Part { part, name } => rename(rt, part, name),
             Place::File => end_here(&file),
             Place::Device => Ok(()),
         };
@@ -90,7 +101,8 @@ impl<'a> WholeFile<'a> {
 }
 
 /// Writes the file of this name whole. It follows links and fails as `WholeFile` does, and with the
-/// reason of a write that failed.
+/// reason of a write that failed. It does not wait until the system has stored the content, since it
+/// is for many files.
 pub fn put_file(
     rt: &HostRuntime,
     path: &str,
@@ -99,7 +111,7 @@ pub fn put_file(
 ) -> Result<(), ErrorKind> {
     let whole = WholeFile::create(rt, path, program)?;
     match fill(whole.file(), content) {
-        Ok(()) => whole.finish(),
+        Ok(()) => whole.end(),
         Err(error) => {
             whole.discard();
             Err(error.kind())
@@ -264,17 +276,6 @@ fn part_path(
 {
     let part = format!(in alloc; "{program}-{process}-{n}.part")?;
     name.with_file_name(alloc, part.as_str())
-}
-
-/// Gives a part the name when the system has stored its content. If it can't, the part goes.
-fn store(rt: &HostRuntime, file: &File, part: &PathBuf, name: &PathBuf) -> io::Result<()> {
-    match file.sync_all() {
-        Ok(()) => rename(rt, part, name),
-        Err(error) => {
-            let _ = fs::remove_file(rt, part);
-            Err(error)
-        }
-    }
 }
 
 /// Gives a part the name. Where the system does not allow that, as for a file of its own mount, the
