@@ -1,7 +1,7 @@
-use Rattle.std.proofs.Common.{sym, arith}
+use Rattle.std.proofs.Common.{sym}
 use Rattle.std.proofs.lemmas.Result.{err_from_is_err_and}
-use Rattle.gs1_base.proofs.Lists.{some_left, none_left}
-use Rattle.gs1.proofs.CouponSteps.{coupon_here, coupon_behind, coupon_end}
+use Rattle.gs1_base.proofs.Lists.{some_left}
+use Rattle.gs1.proofs.CouponSteps.{coupon_here}
 use Rattle.gs1.proofs.coupons.check_coupon.Goals as goal
 
 pub returns-in_err-check_step : goal.returns-in_err-check_step
