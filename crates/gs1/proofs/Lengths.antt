@@ -149,8 +149,10 @@ other_fits n =
     (if_fits (n == 8020) _ _ refl
     (if_fits (n == 8026) _ _ refl
     (if_fits (n == 8030) _ _ refl
-    (if_fits ((n == 8110) || (n == 8112) || (n == 8200)) _ _ refl
-    (if_fits (n == 8111) _ _ refl refl))))))))))
+    (if_fits (n == 8110) _ _ refl
+    (if_fits (n == 8112) _ _ refl
+    (if_fits (n == 8200) _ _ refl
+    (if_fits (n == 8111) _ _ refl refl))))))))))))
 
 all_fit : (n : ℕ) → fits (components n) ≡ true
 unfolding components

@@ -12,6 +12,7 @@ pub mod Refusals
 pub mod Written
 pub mod Outcomes
 pub mod Escapes
+pub mod CouponSteps
 pub mod KeySums
 pub mod Errors
 pub mod Sizes

@@ -1,6 +1,7 @@
 pub mod Identifiers
 pub mod Codes
 pub mod Checks
+pub mod Coupons
 pub mod Keys
 pub mod Table
 pub mod Elements

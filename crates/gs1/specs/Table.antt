@@ -12,7 +12,7 @@ use Rattle.gs1.specs.declared.table.Check.TheVariants.{Country, CountryOrAny, Co
 use Rattle.gs1.specs.declared.table.Check.TheVariants.{Currency, Flag, Piece, Winding, Zero}
 use Rattle.gs1.specs.declared.table.Check.TheVariants.{Nonzero, NoLeadingZero, Escapes, Latitude}
 use Rattle.gs1.specs.declared.table.Check.TheVariants.{Longitude, Hyphen, Media, Sex, Sequence}
-use Rattle.gs1.specs.declared.table.Check.TheVariants.{Iban, Importer, Padding}
+use Rattle.gs1.specs.declared.table.Check.TheVariants.{Iban, Importer, Padding, Coupon}
 use Rattle.gs1.specs.declared.table.Component.{Component}
 use Rattle.gs1.specs.declared.table.Component.TheVariants.{Needed, Optional}
 
@@ -173,9 +173,11 @@ components_of_other n =
     else (if n == 8020 then Needed Set82 1 25 Nothing ∷ []
     else (if n == 8026 then Needed Digits 14 14 CheckDigit ∷ Needed Digits 4 4 Piece ∷ []
     else (if n == 8030 then Needed Base64 1 90 Padding ∷ []
-    else (if (n == 8110) || (n == 8112) || (n == 8200) then Needed Set82 1 70 Nothing ∷ []
+    else (if n == 8110 then Needed Digits 1 70 (Coupon true) ∷ []
+    else (if n == 8112 then Needed Digits 1 70 (Coupon false) ∷ []
+    else (if n == 8200 then Needed Set82 1 70 Nothing ∷ []
     else (if n == 8111 then Needed Digits 4 4 Nothing ∷ []
-    else []))))))))))
+    else []))))))))))))
 
 -- The components of the values of an identifier, given as a number. An identifier without
 -- components is not assigned. Example: of 8003 a zero, 13 digits of which the last is the check

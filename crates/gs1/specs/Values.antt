@@ -12,6 +12,7 @@ use Rattle.gs1.specs.Checks.{country_or_any_fault, letters_fault, currency_fault
 use Rattle.gs1.specs.Checks.{piece_count_fault, winding_fault, zero_fault, nonzero_fault}
 use Rattle.gs1.specs.Checks.{leading_zero_fault, escapes_fault, padding_fault, coordinate_fault}
 use Rattle.gs1.specs.Checks.{minus_fault, media_fault, sex_fault, sequence_fault, importer_fault, key_fault}
+use Rattle.gs1.specs.Coupons.{first_fields, coupon_fault}
 use Rattle.gs1.specs.Keys.{check_digit_fault, model_fault, iban_fault}
 use Rattle.gs1.specs.Table.{components, characters_of, least_of, greatest_of, check_of, is_optional}
 use Rattle.gs1.specs.Elements.{Element, is_identifier, is_opening, written_elements}
@@ -27,7 +28,7 @@ use Rattle.gs1.specs.declared.table.Check.TheVariants.{Country, CountryOrAny, Co
 use Rattle.gs1.specs.declared.table.Check.TheVariants.{Currency, Flag, Piece, Winding, Zero}
 use Rattle.gs1.specs.declared.table.Check.TheVariants.{Nonzero, NoLeadingZero, Escapes, Latitude}
 use Rattle.gs1.specs.declared.table.Check.TheVariants.{Longitude, Hyphen, Media, Sex, Sequence}
-use Rattle.gs1.specs.declared.table.Check.TheVariants.{Iban, Importer, Padding}
+use Rattle.gs1.specs.declared.table.Check.TheVariants.{Iban, Importer, Padding, Coupon}
 use Rattle.gs1.specs.declared.table.Component.{Component}
 use Rattle.gs1.specs.declared.refusal.CheckError.{CheckError}
 use Rattle.gs1.specs.declared.refusal.CheckError.TheVariants.{NoElements, InvalidIdentifier}
@@ -88,6 +89,8 @@ check_fault Sex place piece = sex_fault place piece
 check_fault Sequence place piece = sequence_fault place piece
 check_fault Iban place piece = iban_fault place piece
 check_fault Importer place piece = importer_fault place piece
+check_fault (Coupon is_coupon) place piece =
+    coupon_fault is_coupon (first_fields is_coupon) 0 place piece
 
 -- The first fault of the piece of a value that a component takes: its length, its characters, and
 -- what it has to satisfy. One that may be left out may be empty.

@@ -46,7 +46,7 @@ fn check_month_day(
     month: usize,
     day: usize,
 ) -> Result<(), Fault>
-    requires { place < 2 ^ 63 + 8 }
+    requires { place < 2 ^ 63 + 2 ^ 17 }
     ensures { result_err result ≡ month_day_fault leap first_day place month day }
 {
     fault_if(month < 1 || 12 < month, place, Reason::WrongMonth)?;
@@ -56,7 +56,7 @@ fn check_month_day(
 
 /// Checks a date YYMMDD whose least day is this one.
 pub(crate) fn check_date(first_day: usize, place: usize, piece: &[u8]) -> Result<(), Fault>
-    requires { place < 2 ^ 63 }
+    requires { place < 2 ^ 63 + 2 ^ 16 }
     ensures { result_err result ≡ date_fault first_day place piece.now }
 {
     let leap = two_digits(piece, 0) % 4 == 0;

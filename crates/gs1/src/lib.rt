@@ -20,6 +20,7 @@ pub mod check;
 mod checked;
 mod checks;
 mod codes;
+mod coupons;
 mod dates;
 mod error;
 mod identifiers;

@@ -3,15 +3,14 @@ ghost use Rattle.std.specs.Prelude.{◌≡◌, ◌<◌};
 ghost use Rattle.gs1.specs.Table.{components, components_of_two, components_of_three};
 ghost use Rattle.gs1.specs.Table.{components_of_measure, components_of_transport};
 ghost use Rattle.gs1.specs.Table.{components_of_meat, components_of_person};
-ghost use Rattle.gs1.specs.Table.{components_of_item, components_of_other};
+ghost use Rattle.gs1.specs.Table.{components_of_item, components_of_other, is_measure};
 ghost use Rattle.gs1.specs.Table.{characters_of, least_of, greatest_of, check_of, is_optional};
-ghost use Rattle.gs1.specs.Table.{is_measure};
 
 use Characters::{Base64, Capitals, Digits, Set39, Set82};
 use Check::{
-    CheckDigit, Country, CountryLetters, CountryOrAny, Currency, Date, Day, Escapes, Flag, Hour,
-    HourMinute, Hyphen, Iban, Importer, Key, Latitude, LongDay, Longitude, Media, Minute, Model,
-    NoLeadingZero, Nonzero, Nothing, Padding, Piece, Second, Sequence, Sex, Winding, Zero,
+    CheckDigit, Country, CountryLetters, CountryOrAny, Coupon, Currency, Date, Day, Escapes, Flag,
+    Hour, HourMinute, Hyphen, Iban, Importer, Key, Latitude, LongDay, Longitude, Media, Minute,
+    Model, NoLeadingZero, Nonzero, Nothing, Padding, Piece, Second, Sequence, Sex, Winding, Zero,
 };
 use Component::{Needed, Optional};
 
@@ -95,6 +94,8 @@ pub(crate) enum Check {
     Iban,
     /// An importer index.
     Importer,
+    /// The fields of a coupon code, or of an offer.
+    Coupon(bool),
 }
 
 /// A component of a value: its characters, least and greatest length, and check.
@@ -222,8 +223,7 @@ fn of_three(number: usize) -> &'static [Component]
     }
 }
 
-/// Returns whether an identifier is one of a measure, whose last digit is the place of its
-/// decimal point.
+/// Returns whether an identifier is that of a measure.
 fn is_measure(number: usize) -> bool
     ensures { result ≡ is_measure number }
 {
@@ -390,7 +390,9 @@ fn of_other(number: usize) -> &'static [Component]
             Needed(Digits, 4, 4, Piece),
         ],
         8030 => &[Needed(Base64, 1, 90, Padding)],
-        8110 | 8112 | 8200 => &[Needed(Set82, 1, 70, Nothing)],
+        8110 => &[Needed(Digits, 1, 70, Coupon(true))],
+        8112 => &[Needed(Digits, 1, 70, Coupon(false))],
+        8200 => &[Needed(Set82, 1, 70, Nothing)],
         8111 => &[Needed(Digits, 4, 4, Nothing)],
         _ => &[],
     }

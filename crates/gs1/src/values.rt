@@ -16,6 +16,7 @@ use crate::checks::{
     check_minus, check_nonzero, check_padding, check_piece_count, check_sequence, check_sex,
     check_winding, check_zero,
 };
+use crate::coupons::check_coupon;
 use crate::dates::{
     check_date, check_hour, check_hour_minute, check_long_date, check_minute, check_second,
     decimal_at, two_digits,
@@ -101,6 +102,7 @@ fn check(check: Check, place: usize, piece: &[u8]) -> Result<(), Fault>
         Check::Sequence => check_sequence(place, piece),
         Check::Iban => check_iban(place, piece),
         Check::Importer => check_importer(place, piece),
+        Check::Coupon(is_coupon) => check_coupon(is_coupon, place, piece),
     }
 }
 

@@ -5,6 +5,8 @@
 #[cfg(test)]
 mod checked_tests;
 #[cfg(test)]
+mod coupon_tests;
+#[cfg(test)]
 mod element_tests;
 #[cfg(test)]
 mod link_read_tests;
