@@ -28,7 +28,7 @@ fn are_domain_characters(domain: &[u8]) -> bool
     domain.iter().all(|c| matches!(c, b'-' | b'.' | b'0'..=b'9' | b':' | b'A'..=b'Z' | b'a'..=b'z'))
 }
 
-/// Returns whether a label may have so many characters.
+/// Returns whether a label of a host name may have this number of characters.
 fn is_length(length: usize) -> bool
     ensures { result ≡ is_within 1 63 length }
 {

@@ -172,7 +172,7 @@ static RULES: [(&str, usize, usize, Option<usize>); 36] = [
     ("(255)9506000134352(3900)1(3940)0010", 1, 3900, Some(2)),
     ("(255)9506000134352(3900)1(8111)0010", 1, 3900, Some(2)),
     ("(255)9506000134352(3940)0010(8111)0010", 1, 3940, Some(2)),
-    // An address needs the company, and what a carrier is told a logistic unit.
+    // An address needs the company (4302), and an instruction for a carrier a logistic unit (00).
     ("(00)106141412345678908(4303)A", 1, 4303, None),
     ("(00)106141412345678908(4316)A", 1, 4316, None),
     ("(4330)001234", 0, 4330, None),

@@ -1,6 +1,6 @@
 //! Tests of `text_plans`, `text_symbols`, `text_cuts`, `text_sequences` and `byte_symbols`: worked
-//! rows, read back by `plain_reader`, and calls whose allocations fail (`tools/refuse-growth`); and
-//! of the characters of `jisx0208` and `text_reading`.
+//! rows, read back by `plain_reader`, and calls that run out of memory (`tools/refuse-growth`). Of
+//! `jisx0208` and `text_reading` all characters are tested.
 #![tactic(auto)]
 
 #[cfg(test)]
