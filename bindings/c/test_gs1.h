@@ -91,6 +91,9 @@ static void test_faults(void) {
            is_fault(0, 0, -1, "the text does not begin with a bracketed identifier"));
     EXPECT(fault_of("(10)\xff") == SICKLESPAN_INVALID_TEXT &&
            is_fault(0, 0, -1, "the text is not UTF-8"));
+    /* Month 13 stands at the third character of the second element. */
+    EXPECT(fault_of("(10)ABC(17)261331") == SICKLESPAN_WRONG_VALUE &&
+           is_fault(2, 3, 17, "no such month"));
     EXPECT(fault_of("(10)A(1)2") == SICKLESPAN_INVALID_IDENTIFIER &&
            is_fault(2, 0, -1, "an identifier is not two to four digits in brackets"));
     EXPECT(fault_of("(10") == SICKLESPAN_EMPTY_VALUE &&
