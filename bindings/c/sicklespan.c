@@ -385,6 +385,13 @@ static bool is_of_data(int32_t status) {
            (status >= SICKLESPAN_INVALID_CHARACTER && status <= SICKLESPAN_WRONG_CHECK_DIGIT);
 }
 
+/* Whether the first bytes of data are good, by what a call returns for them. */
+static bool are_good_first(int32_t found, bool is_long) {
+    return found == SICKLESPAN_SHORT_BUFFER || found == SICKLESPAN_MISSING_ELEMENT ||
+           found == SICKLESPAN_CONFLICTING_ELEMENT ||
+           (found == SICKLESPAN_DATA_TOO_LONG && !is_long);
+}
+
 int32_t sicklespan_check(int32_t content, const void *data, size_t length,
                          const sicklespan_options *options, size_t *good) {
     if (is_unsupported()) return SICKLESPAN_UNSUPPORTED_PROCESSOR;
@@ -406,13 +413,15 @@ int32_t sicklespan_check(int32_t content, const void *data, size_t length,
     /* The first `low` bytes are good, and the first `high` ones are not. No symbol holds the
      * elements of 16384 bytes, nor that many bytes. */
     const bool is_long = status == SICKLESPAN_DATA_TOO_LONG;
+    /* The first of elements that stand together may need later ones. */
+    if (is_long && content == SICKLESPAN_CONTENT_GS1) content = SICKLESPAN_CONTENT_GS1_UNCHECKED;
     size_t low = 0, high = is_long ? least(length, 16384) : length;
     while (high - low > 1) {
         const size_t middle = low + (high - low) / 2, end = cut_up_to(cut, data, middle);
         const int32_t found =
             end > 0 ? tried(content, data, end, options) : SICKLESPAN_SHORT_BUFFER;
         if (found == SICKLESPAN_OUT_OF_MEMORY) return found;
-        if (found == SICKLESPAN_SHORT_BUFFER || (found == SICKLESPAN_DATA_TOO_LONG && !is_long)) {
+        if (are_good_first(found, is_long)) {
             low = middle;
         } else {
             high = middle;

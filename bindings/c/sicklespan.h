@@ -67,10 +67,10 @@ enum sicklespan_status {
     SICKLESPAN_WRONG_DOMAIN = 25,       /* the domain is no host name, with a port or without */
     SICKLESPAN_NO_KEY = 26,             /* no element is the key of a link, as (01) or (00) are */
     SICKLESPAN_SECOND_KEY = 27,         /* an element is a key of links, and another after it */
-    SICKLESPAN_WRONG_QUALIFIER = 28,    /* a qualifier of the key may not stand beside another one */
-    SICKLESPAN_REPEATED_ELEMENT = 29,   /* an identifier stands twice in a link */
-    SICKLESPAN_MISSING_ELEMENT = 30,    /* an element needs one that is not in the link */
-    SICKLESPAN_CONFLICTING_ELEMENT = 31,  /* an element may not stand beside another in the link */
+    SICKLESPAN_WRONG_QUALIFIER = 28,  /* a qualifier of the key may not stand beside another one */
+    SICKLESPAN_REPEATED_ELEMENT = 29, /* an identifier stands twice in a link */
+    SICKLESPAN_MISSING_ELEMENT = 30,  /* an element needs one that is not there */
+    SICKLESPAN_CONFLICTING_ELEMENT = 31,  /* an element may not stand beside another one */
     SICKLESPAN_UNWRITABLE_TEXT = 32,      /* no Micro symbol is read as the text */
     SICKLESPAN_UNSUPPORTED_PROCESSOR = 33 /* the processor lacks x86-64-v2; see above */
 };
@@ -187,14 +187,18 @@ int32_t sicklespan_elements(const void *elements, size_t length, const sicklespa
  * The same of elements as people write them: "(01)09506000134352(10)ABC123". Each element is tested
  * by the table of identifiers of the GS1 General Specifications, release 25 (January 2025): its
  * identifier is assigned, and its value has the length, the characters, the check digit, the date,
- * the country and what else the table asks for. Whether elements may stand together is not tested.
- * A value has no `(`, with which the next identifier begins.
+ * the country and what else the table asks for. The elements stand together: beside each are those
+ * that it needs, as a batch (10) needs a trade item (01), and none that it excludes; and an
+ * identifier that stands twice has one value. A value has no `(`, with which the next identifier
+ * begins.
  *
  * After SICKLESPAN_INVALID_VERSIONS: SICKLESPAN_INVALID_TEXT, SICKLESPAN_NO_ELEMENTS, and of the
  * first element that has a fault the first of SICKLESPAN_INVALID_IDENTIFIER,
  * SICKLESPAN_UNKNOWN_IDENTIFIER and, of its value from the left, SICKLESPAN_EMPTY_VALUE,
  * SICKLESPAN_WRONG_LENGTH (it ends too early), SICKLESPAN_INVALID_CHARACTER,
- * SICKLESPAN_WRONG_CHECK_DIGIT, SICKLESPAN_WRONG_VALUE, SICKLESPAN_VALUE_TOO_LONG.
+ * SICKLESPAN_WRONG_CHECK_DIGIT, SICKLESPAN_WRONG_VALUE, SICKLESPAN_VALUE_TOO_LONG; then
+ * SICKLESPAN_DATA_TOO_LONG (a text of more than 11815 bytes), and of the first that may not stand
+ * beside the others SICKLESPAN_MISSING_ELEMENT, SICKLESPAN_CONFLICTING_ELEMENT.
  */
 int32_t sicklespan_gs1(const char *text, size_t length, const sicklespan_options *options,
                        uint8_t *modules, size_t room, sicklespan_shape *shape);
@@ -204,7 +208,7 @@ int32_t sicklespan_gs1(const char *text, size_t length, const sicklespan_options
  * needs alone. That is the number of an identifier's digits by its first two, the characters, the
  * predefined lengths (identifiers that begin with 00 to 04, 11 to 20, 31 to 36 or 41), and the
  * check digits of 00, 01, 02 and 410 to 417. What else GS1 says of a value, its greatest length,
- * say, or a date, is not tested.
+ * say, or a date, is not tested, nor which elements stand together.
  *
  * After SICKLESPAN_INVALID_VERSIONS: SICKLESPAN_INVALID_TEXT, SICKLESPAN_NO_ELEMENTS, and of the
  * first element that has a fault SICKLESPAN_INVALID_IDENTIFIER, SICKLESPAN_UNKNOWN_IDENTIFIER,
@@ -227,7 +231,7 @@ typedef struct sicklespan_fault {
  * SICKLESPAN_OK, and writes the fault.
  *
  * SICKLESPAN_INVALID_POINTER as above, of `fault`, with which nothing is written; the statuses of
- * sicklespan_gs1 for a fault of the text; SICKLESPAN_OUT_OF_MEMORY.
+ * sicklespan_gs1 for a fault of the text. Nothing is allocated.
  */
 int32_t sicklespan_gs1_fault(const char *text, size_t length, sicklespan_fault *fault);
 
@@ -236,7 +240,8 @@ int32_t sicklespan_gs1_fault(const char *text, size_t length, sicklespan_fault *
  * it: of "(17)261231(10)ABC(01)09506000134352" and the domain "id.gs1.org" that of
  * "https://id.gs1.org/01/09506000134352/10/ABC?17=261231". The key comes first, then its
  * qualifiers, and the other elements as a query. The elements are tested as sicklespan_gs1 does it.
- * The domain is a host name of letters, digits, `-` and `.`, with a port or without.
+ * The domain is a host name of letters, digits, `-` and `.`, with a port or without, and with the
+ * path at which the link begins or without: "example.com/shop".
  *
  * After SICKLESPAN_INVALID_VERSIONS: SICKLESPAN_INVALID_TEXT, SICKLESPAN_DATA_TOO_LONG (a text of
  * more than 11815 bytes), those of sicklespan_gs1 for a fault of the elements,
@@ -311,14 +316,15 @@ enum sicklespan_content {
  * first one begins at the byte `*good`. Bytes may be cut anywhere, a text between two characters,
  * what people write of GS1 before an element; what readers find does not end with a separator. Of
  * SICKLESPAN_CONTENT_AUTO more of the first bytes may fit than `*good`, if the data are no text,
- * but a part of them is one.
+ * but a part of them is one. Which elements stand together is not asked of the first bytes.
  *
  * It takes the time of about 15 symbols, and for a fault in n bytes that of looking through them
  * log2(n) times.
  *
  * SICKLESPAN_INVALID_POINTER as above, of `good`; SICKLESPAN_INVALID_CONTENT, and the statuses of
  * the call. Only with SICKLESPAN_OK, SICKLESPAN_DATA_TOO_LONG, SICKLESPAN_INVALID_TEXT,
- * SICKLESPAN_UNWRITABLE_TEXT and those of GS1 elements is `good` written.
+ * SICKLESPAN_UNWRITABLE_TEXT and those of the values of GS1 elements is `good` written, and not
+ * with SICKLESPAN_MISSING_ELEMENT and SICKLESPAN_CONFLICTING_ELEMENT.
  */
 int32_t sicklespan_check(int32_t content, const void *data, size_t length,
                          const sicklespan_options *options, size_t *good);

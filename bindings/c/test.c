@@ -349,8 +349,9 @@ static void (*const tests[])(void) = {
     test_text_sequence, test_picture_room, test_picture_pointers, test_settings,
     test_picture_allocations, test_check, test_check_long, test_check_pointers, test_check_memory,
     test_wrong_setting, test_quiet_zones, test_auto, test_table, test_faults, test_reasons,
-    test_links, test_link_pointers, test_smallest_text, test_micro_text, test_text_allocations,
-    test_without_kanji, test_without_kanji_allocations, test_worked_symbols, test_worked_options,
+    test_together, test_links, test_link_pointers, test_smallest_text, test_micro_text,
+    test_text_allocations, test_without_kanji, test_without_kanji_allocations,
+    test_worked_symbols, test_worked_options,
     test_worked_elements, test_worked_links, test_worked_sequences, test_worked_lengths,
     test_worked_texts, test_worked_pictures, test_worked_settings,
 };

@@ -65,7 +65,7 @@ static void test_asked_pointers(void) {
     asked_call *const calls[] = {
         of_bytes, of_text,          of_elements,      of_gs1,
         of_auto,  of_gs1_unchecked, of_smallest_text, of_bytes_without_kanji};
-    const char *const data[] = {"hello",        "hello",     "10ABC",        "(10)ABC",
+    const char *const data[] = {"hello",        "hello",     "10ABC",        "(401)1234A",
                                 "h\xc3\xa9llo", "(4399)ABC", "\xe6\x9d\xb1", "\x93_"};
     static uint8_t drawn[441];
     for (size_t i = 0; i < sizeof calls / sizeof *calls; i++) {
@@ -165,15 +165,15 @@ static void test_contents(void) {
     EXPECT(asked(of_elements, "10A B", NULL) == SICKLESPAN_INVALID_CHARACTER && is_kept_from(0));
     static uint8_t drawn[625];
     EXPECT(asked(of_elements,
-                 "10ABC\x1d"
-                 "2112",
+                 "91ABC\x1d"
+                 "9212",
                  NULL) == SICKLESPAN_OK);
     memcpy(drawn, modules, sizeof drawn);
-    EXPECT(asked(of_gs1, "(10)ABC(21)12", NULL) == SICKLESPAN_OK);
+    EXPECT(asked(of_gs1, "(91)ABC(92)12", NULL) == SICKLESPAN_OK);
     EXPECT(memcmp(drawn, modules, sizeof drawn) == 0);
     EXPECT(asked(of_bytes,
-                 "10ABC\x1d"
-                 "2112",
+                 "91ABC\x1d"
+                 "9212",
                  NULL) == SICKLESPAN_OK);
     EXPECT(memcmp(drawn, modules, sizeof drawn) != 0);
     const struct {
@@ -199,7 +199,14 @@ static void test_contents(void) {
     EXPECT(asked(of_gs1_unchecked, text, NULL) == SICKLESPAN_OK);
     EXPECT(asked(of_gs1, text, NULL) == SICKLESPAN_VALUE_TOO_LONG && is_kept_from(0));
     text[24] = 0;
+    EXPECT(asked(of_gs1, text, NULL) == SICKLESPAN_MISSING_ELEMENT && is_kept_from(0));
+    strcpy(text + 24, "(01)09506000134352");
     EXPECT(asked(of_gs1, text, NULL) == SICKLESPAN_OK);
+    /* A number sign is of one identifier by the table, and of all unchecked. */
+    EXPECT(asked(of_gs1, "(8010)0614141#A(8011)1", NULL) == SICKLESPAN_OK);
+    EXPECT(asked(of_gs1, "(91)A#", NULL) == SICKLESPAN_INVALID_CHARACTER && is_kept_from(0));
+    EXPECT(asked(of_gs1_unchecked, "(91)A#", NULL) == SICKLESPAN_OK);
+    EXPECT(asked(of_elements, "91A#", NULL) == SICKLESPAN_OK);
 }
 
 /* Which call a text is left to, by the modules that it draws. Two plans of the second row take 72
@@ -261,7 +268,7 @@ static int32_t draw_elements(void) {
 }
 
 static int32_t draw_gs1(void) {
-    return sicklespan_gs1("(10)ABC(21)12", 13, NULL, modules, GREATEST, &shape);
+    return sicklespan_gs1("(91)ABC(92)12", 13, NULL, modules, GREATEST, &shape);
 }
 
 static void test_asked_allocations(void) {

@@ -107,10 +107,47 @@ static void test_faults(void) {
     EXPECT(sicklespan_gs1_fault(NULL, 0, &fault) == SICKLESPAN_NO_ELEMENTS && fault.element == 0);
     EXPECT(sicklespan_gs1_fault("(10)A", 5, NULL) == SICKLESPAN_INVALID_POINTER);
     EXPECT(sicklespan_gs1_fault((const char *)&fault, 1, &fault) == SICKLESPAN_INVALID_POINTER);
+    /* Nothing is allocated. */
     failing = 1, allocations = 0;
-    EXPECT(fault_of("(10)A") == SICKLESPAN_OUT_OF_MEMORY && is_fault(0, 0, -1, "out of memory"));
+    EXPECT(fault_of("(91)A") == SICKLESPAN_OK && is_fault(0, 0, -1, "done"));
     EXPECT(fault_of("(10") == SICKLESPAN_EMPTY_VALUE);
     failing = 0;
+}
+
+/* Elements that may not stand together. */
+static void test_together(void) {
+    static const char missing[] = "an element that has to stand beside it is missing";
+    static const char conflicting[] = "an element may not stand beside another one";
+    const struct {
+        const char *text;
+        int32_t status;
+        size_t element;
+        int32_t identifier;
+    } rows[] = {{"(10)ABC", SICKLESPAN_MISSING_ELEMENT, 1, 10},
+                {"(91)A(02)09506000134352", SICKLESPAN_MISSING_ELEMENT, 2, 2},
+                {"(01)09506000134352(3922)2172", SICKLESPAN_MISSING_ELEMENT, 2, 3922},
+                {"(01)09506000134352(255)9506000134352", SICKLESPAN_CONFLICTING_ELEMENT, 1, 1},
+                {"(01)09506000134352(10)A(10)B", SICKLESPAN_CONFLICTING_ELEMENT, 2, 10},
+                {"(01)09506000134352(10)A(10)A", SICKLESPAN_OK, 0, -1}};
+    for (size_t i = 0; i < sizeof rows / sizeof *rows; i++) {
+        const char *const row = rows[i].text;
+        const int32_t status = rows[i].status;
+        expect(fault_of(row) == status &&
+                   is_fault(rows[i].element, 0, rows[i].identifier,
+                            status == SICKLESPAN_OK                ? "done"
+                            : status == SICKLESPAN_MISSING_ELEMENT ? missing
+                                                                   : conflicting),
+               row, __LINE__);
+        expect(asked(of_gs1, row, NULL) == status && (status == SICKLESPAN_OK || is_kept_from(0)),
+               row, __LINE__);
+        expect(asked(of_gs1_unchecked, row, NULL) == SICKLESPAN_OK, row, __LINE__);
+    }
+    /* Elements of more than 11815 bytes are looked at one by one alone. */
+    static char many[11825];
+    for (size_t i = 0; i < sizeof many; i++) many[i] = "(91)A"[i % 5];
+    EXPECT(sicklespan_gs1_fault(many, 11815, &fault) == SICKLESPAN_OK);
+    EXPECT(sicklespan_gs1_fault(many, 11820, &fault) == SICKLESPAN_DATA_TOO_LONG &&
+           is_fault(0, 0, -1, "the data are too long"));
 }
 
 static const char trade_item[] = "(17)261231(10)A/B(01)09506000134352";
@@ -146,24 +183,28 @@ static void test_links(void) {
     EXPECT(draw_link() == SICKLESPAN_OK && shape.width == width &&
            memcmp(drawn, modules, (size_t)(width * width)) == 0);
     fail_allocations(draw_link);
+    static const char at_path[] = "https://a.b/c/01/09506000134352";
+    EXPECT(link_of("(01)09506000134352", "a.b/c", sizeof link) == SICKLESPAN_OK &&
+           link_size == sizeof at_path - 1 && memcmp(link, at_path, link_size) == 0);
     const struct {
         const char *text, *domain;
         int32_t status;
         size_t element;
         int32_t identifier;
-    } rows[] = {{"(01)09506000134353", "", SICKLESPAN_WRONG_CHECK_DIGIT, 1, 1},
-                {"(01)09506000134352", "", SICKLESPAN_WRONG_DOMAIN, 0, -1},
-                {"(01)09506000134352", "\xff", SICKLESPAN_WRONG_DOMAIN, 0, -1},
-                {"(01)09506000134352", "a/b", SICKLESPAN_WRONG_DOMAIN, 0, -1},
-                {"(10)A", host, SICKLESPAN_NO_KEY, 0, -1},
-                {"(01)09506000134352(00)106141412345678908", host, SICKLESPAN_SECOND_KEY, 1, -1},
-                {"(01)09506000134352(10)A(235)B", host, SICKLESPAN_WRONG_QUALIFIER, 2, 10},
-                {"(10)A(01)09506000134352(10)A", host, SICKLESPAN_REPEATED_ELEMENT, 1, 10},
-                {"(01)09506000134352(3922)2172", host, SICKLESPAN_MISSING_ELEMENT, 2, 3922},
-                {"(00)106141412345678908(420)1(421)0361", host, SICKLESPAN_CONFLICTING_ELEMENT, 2,
-                 420},
-                {"(01)09506000134352(10)\xff", host, SICKLESPAN_INVALID_TEXT, 0, -1},
-                {"(01)09506000134352", "a.b:80", SICKLESPAN_OK, 0, -1}};
+    } rows[] = {
+        {"(01)09506000134353", "", SICKLESPAN_WRONG_CHECK_DIGIT, 1, 1},
+        {"(01)09506000134352", "", SICKLESPAN_WRONG_DOMAIN, 0, -1},
+        {"(01)09506000134352", "\xff", SICKLESPAN_WRONG_DOMAIN, 0, -1},
+        {"(01)09506000134352", "a//b", SICKLESPAN_WRONG_DOMAIN, 0, -1},
+        {"(10)A", host, SICKLESPAN_NO_KEY, 0, -1},
+        {"(01)09506000134352(00)106141412345678908", host, SICKLESPAN_SECOND_KEY, 1, -1},
+        {"(01)09506000134352(10)A(235)B", host, SICKLESPAN_WRONG_QUALIFIER, 2, 10},
+        {"(10)A(01)09506000134352(10)A", host, SICKLESPAN_REPEATED_ELEMENT, 1, 10},
+        {"(01)09506000134352(3922)2172", host, SICKLESPAN_MISSING_ELEMENT, 2, 3922},
+        {"(00)106141412345678908(420)1(421)0361", host, SICKLESPAN_CONFLICTING_ELEMENT, 2, 420},
+        {"(01)09506000134352(10)\xff", host, SICKLESPAN_INVALID_TEXT, 0, -1},
+        {"(01)09506000134352", "a.b/c", SICKLESPAN_OK, 0, -1},
+        {"(01)09506000134352", "a.b:80", SICKLESPAN_OK, 0, -1}};
     for (size_t i = 0; i < sizeof rows / sizeof *rows; i++) {
         const char *const text = rows[i].text, *const domain = rows[i].domain;
         const size_t length = strlen(text), domain_length = strlen(domain);

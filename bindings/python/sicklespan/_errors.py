@@ -119,7 +119,7 @@ class WrongValueError(ElementError):
 
 
 class WrongDomainError(SicklespanError):
-    """The domain of a link is no host name, with a port or without."""
+    """The domain of a link is no host name, with or without a port and a path."""
 
 
 class NoKeyError(SicklespanError):
@@ -139,11 +139,11 @@ class RepeatedElementError(ElementError):
 
 
 class MissingElementError(ElementError):
-    """An element needs one that is not in the link."""
+    """An element needs one that is not there."""
 
 
 class ConflictingElementError(ElementError):
-    """An element may not stand beside another one of the link."""
+    """An element may not stand beside another one."""
 
 
 class InvalidFormatError(SicklespanError):
@@ -247,7 +247,7 @@ def check_link(status: int, text: bytes, domain: bytes) -> None:
 
 def check_data(status: int, content: int, data: bytes, options: Options) -> None:
     """Raises the error of a status of a call with data, and says of how many of them it is."""
-    if status not in (1, 24, 32) and not 12 <= status <= 19:
+    if status not in (1, 24, 30, 31, 32) and not 12 <= status <= 19:
         return check(status)
     fault = Fault()
     if content == GS1 and status != 1:

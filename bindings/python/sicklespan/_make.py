@@ -166,8 +166,9 @@ def gs1(content: str, error: Optional[str] = None, version: Optional[int] = None
 
     Each element is tested by the table of identifiers of the GS1 General Specifications, release 25
     (January 2025): its identifier is assigned, and its value has the length, the characters, the
-    check digit, the date, the country and what else the table asks for. Whether elements may stand
-    together is not tested.
+    check digit, the date, the country and what else the table asks for. The elements stand together:
+    beside each are those that it needs, as a batch (10) needs a trade item (01), and none that it
+    excludes; and an identifier that stands twice has one value.
     """
     options = _options(error, version, min_version, max_version, boost_error)
     return _drawn(GS1, _text("content", content), options)
@@ -180,7 +181,8 @@ def gs1_unchecked(content: str, error: Optional[str] = None, version: Optional[i
     Elements are tested for what a reader needs alone. That is the number of an identifier's digits
     by its first two, the characters, the predefined lengths (identifiers that begin with 00 to 04,
     11 to 20, 31 to 36 or 41), and the check digits of 00, 01, 02 and 410 to 417. What else GS1 says
-    of a value, its greatest length, say, or a date, is not tested.
+    of a value, its greatest length, say, or a date, is not tested, nor which elements stand
+    together.
     """
     options = _options(error, version, min_version, max_version, boost_error)
     return _drawn(GS1_UNCHECKED, _text("content", content), options)
@@ -203,7 +205,7 @@ def link_text(content: str, domain: str) -> str:
 
     The key comes first, then its qualifiers, and the other elements as a query. The elements are
     tested as `gs1` does it. The domain is a host name of letters, digits, `-` and `.`, with a port
-    or without.
+    or without, and with the path at which the link begins or without: `example.com/shop`.
     """
     text, host = _text("content", content), _text("domain", domain)
     room, size, status = 1 << 10, ctypes.c_size_t(), _SHORT_BUFFER

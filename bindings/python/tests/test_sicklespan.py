@@ -201,15 +201,41 @@ class Symbols(unittest.TestCase):
             sicklespan.gs1_unchecked(f"(99)A{text}")
         self.assertEqual(str(it), "element 2 (7299): an identifier is unknown")
 
+    def test_elements_together(self):
+        # What may not stand together, and is drawn unchecked.
+        rows = (("(10)ABC", "Missing", 1, 10), ("(91)A(02)09506000134352", "Missing", 2, 2),
+                ("(01)09506000134352(10)A(10)B", "Conflicting", 2, 10),
+                ("(01)09506000134352(255)9506000134352", "Conflicting", 1, 1))
+        for text, error, element, identifier in rows:
+            with self.assertRaises(getattr(sicklespan, f"{error}ElementError")) as raised:
+                sicklespan.gs1(text)
+            it = raised.exception
+            self.assertEqual((it.element, it.identifier, it.character),
+                             (element, identifier, None))
+            sicklespan.gs1_unchecked(text)
+        with self.assertRaises(sicklespan.DataTooLongError) as too_long:
+            sicklespan.gs1("(10)ABCDEF(01)09506000134352", "H", 1)
+        self.assertEqual(too_long.exception.too_many, 18)
+
+    def test_number_signs(self):
+        # One identifier has them by the table, and all unchecked.
+        written = sicklespan.gs1("(8010)0614141#A(8011)1")
+        self.assertEqual(written, sicklespan.elements(b"80100614141#A\x1d80111"))
+        with self.assertRaises(sicklespan.InvalidCharacterError):
+            sicklespan.gs1("(91)A#")
+        sicklespan.gs1_unchecked("(91)A#")
+
     def test_links(self):
         text = "(17)261231(10)A/B(01)09506000134352"
         link = "https://id.gs1.org/01/09506000134352/10/A%2FB?17=261231"
         self.assertEqual(sicklespan.link_text(text, "id.gs1.org"), link)
         self.assertEqual(sicklespan.link(text, "id.gs1.org"), sicklespan.make(link))
+        self.assertEqual(sicklespan.link_text("(01)09506000134352", "a.b/c"),
+                         "https://a.b/c/01/09506000134352")
         many = "(01)09506000134352" + "".join(f"({n})" + "/" * 90 for n in range(91, 100))
         self.assertEqual(len(sicklespan.link_text(many, "a.b")), 29 + 9 * (4 + 270))
         faults = (("(01)09506000134353", "a.b", "WrongCheckDigit"),
-                  ("(01)09506000134352", "a/b", "WrongDomain"), ("(10)A", "a.b", "NoKey"),
+                  ("(01)09506000134352", "a//b", "WrongDomain"), ("(10)A", "a.b", "NoKey"),
                   ("(01)09506000134352(00)106141412345678908", "a.b", "SecondKey"),
                   ("(01)09506000134352(10)A(235)B", "a.b", "WrongQualifier"),
                   ("(01)09506000134352(3922)2172", "a.b", "MissingElement"),

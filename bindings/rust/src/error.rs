@@ -106,7 +106,7 @@ pub enum Error {
     WrongCheckDigit(Fault),
     /// A value is wrong in another way: no such date, say.
     WrongValue(Fault),
-    /// The domain of a link is no host name, with a port or without.
+    /// The domain of a link is no host name, with or without a port and a path.
     WrongDomain,
     /// No element is the key of a link, as (01), (00) or (414) are.
     NoKey,
@@ -116,9 +116,9 @@ pub enum Error {
     WrongQualifier(Fault),
     /// The identifier of an element stands once more after it.
     RepeatedElement(Fault),
-    /// An element needs one that is not in the link.
+    /// An element needs one that is not there.
     MissingElement(Fault),
-    /// An element may not stand beside another one of the link.
+    /// An element may not stand beside another one.
     ConflictingElement(Fault),
     /// The processor lacks x86-64-v2, which the library needs.
     UnsupportedProcessor,
@@ -176,7 +176,7 @@ impl Error {
         data: &[u8],
         options: &ffi::Options,
     ) -> Error {
-        if ![1, 24, 32].contains(&status) && !(12..=19).contains(&status) {
+        if ![1, 24, 30, 31, 32].contains(&status) && !(12..=19).contains(&status) {
             return Error::of(status);
         }
         if content == Content::Gs1 && status != 1 {

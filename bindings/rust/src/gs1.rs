@@ -4,7 +4,8 @@ use crate::{ffi, Level, Options, Symbol};
 
 /// Returns the GS1 Digital Link of elements as people write them, at a domain: the key comes first,
 /// then its qualifiers, and the other elements as a query. The elements are tested as `Symbol::gs1`
-/// does it. The domain is a host name of letters, digits, `-` and `.`, with a port or without.
+/// does it. The domain is a host name of letters, digits, `-` and `.`, with a port or without, and
+/// with the path at which the link begins or without: `example.com/shop`.
 ///
 /// ```
 /// # use sicklespan::{link_text, Error};
@@ -49,8 +50,9 @@ impl Symbol {
     /// Returns the best symbol of GS1 elements as people write them. Each element is tested by the
     /// table of identifiers of the GS1 General Specifications, release 25 (January 2025): its
     /// identifier is assigned, and its value has the length, the characters, the check digit, the
-    /// date, the country and what else the table asks for. Whether elements may stand together is
-    /// not tested.
+    /// date, the country and what else the table asks for. The elements stand together: beside each
+    /// are those that it needs, as a batch (10) needs a trade item (01), and none that it excludes;
+    /// and an identifier that stands twice has one value.
     ///
     /// ```
     /// # use sicklespan::{Error, Level, Symbol};
@@ -58,6 +60,8 @@ impl Symbol {
     /// assert_eq!(written, Symbol::elements(b"010950600013435210ABC123", Level::M)?);
     /// let error = Symbol::gs1("(01)09506000134353", Level::M).unwrap_err();
     /// assert_eq!(error.to_string(), "element 1 (01), character 14: wrong check digit");
+    /// let error = Symbol::gs1("(10)ABC123", Level::M).unwrap_err();
+    /// assert!(matches!(error, Error::MissingElement(fault) if fault.identifier == Some(10)));
     /// # Ok::<(), Error>(())
     /// ```
     ///
@@ -65,8 +69,9 @@ impl Symbol {
     ///
     /// `NoElements`, else of the first element that has a fault the first of `InvalidIdentifier`,
     /// `UnknownIdentifier` and, of its value from the left, `EmptyValue`, `WrongLength` (it ends
-    /// too early), `WrongCharacter`, `WrongCheckDigit`, `WrongValue`, `ValueTooLong`; then as
-    /// `bytes`.
+    /// too early), `WrongCharacter`, `WrongCheckDigit`, `WrongValue`, `ValueTooLong`; then
+    /// `DataTooLong` for a text of more than 11815 bytes, and of the first element that may not
+    /// stand beside the others `MissingElement` or `ConflictingElement`; then as `bytes`.
     pub fn gs1(text: &str, level: Level) -> Result<Symbol, Error> {
         Symbol::gs1_with(text, &Options::new(level))
     }
@@ -76,7 +81,7 @@ impl Symbol {
     /// number of an identifier's digits by its first two, the characters, the predefined lengths
     /// (identifiers that begin with 00 to 04, 11 to 20, 31 to 36 or 41), and the check digits of
     /// 00, 01, 02 and 410 to 417. What else GS1 says of a value, its greatest length, say, or a
-    /// date, is not tested.
+    /// date, is not tested, nor which elements stand together.
     ///
     /// ```
     /// # use sicklespan::{Error, Level, Symbol};

@@ -394,6 +394,44 @@ fn refuses_elements_by_the_table() {
     }
 }
 
+/// What may not stand together, and is drawn unchecked.
+#[test]
+fn refuses_elements_that_stand_apart() {
+    let fault = |element, number, reason| Fault {
+        element,
+        identifier: Some(number),
+        character: None,
+        reason,
+    };
+    let missing = "an element that has to stand beside it is missing";
+    let conflicting = "an element may not stand beside another one";
+    for (text, error) in [
+        ("(10)ABC", Error::MissingElement(fault(1, 10, missing))),
+        ("(91)A(02)09506000134352", Error::MissingElement(fault(2, 2, missing))),
+        ("(01)09506000134352(10)A(10)B", Error::ConflictingElement(fault(2, 10, conflicting))),
+        (
+            "(01)09506000134352(255)9506000134352",
+            Error::ConflictingElement(fault(1, 1, conflicting)),
+        ),
+    ] {
+        assert_eq!(Symbol::gs1(text, Level::M), Err(error));
+        assert!(Symbol::gs1_unchecked(text, Level::M).is_ok());
+    }
+    let first = Options::new(Level::H).max_version(1);
+    let error = Symbol::gs1_with("(10)ABCDEF(01)09506000134352", &first).unwrap_err();
+    assert_eq!(error, too_long(18));
+}
+
+/// A number sign is of one identifier by the table, and of all unchecked.
+#[test]
+fn draws_number_signs() {
+    let symbol = Symbol::gs1("(8010)0614141#A(8011)1", Level::M);
+    assert!(symbol.is_ok());
+    assert_eq!(Symbol::elements(b"80100614141#A\x1d80111", Level::M), symbol);
+    assert!(Symbol::gs1("(91)A#", Level::M).is_err());
+    assert!(Symbol::gs1_unchecked("(91)A#", Level::M).is_ok());
+}
+
 #[test]
 fn draws_links() {
     let text = "(17)261231(10)A/B(01)09506000134352";
@@ -408,7 +446,9 @@ fn draws_links() {
         Symbol::link_with(text, "id.gs1.org", &options),
         Err(Error::DataTooLong { too_many: None })
     );
-    assert_eq!(link_text("(01)09506000134352", "a/b"), Err(Error::WrongDomain));
+    assert_eq!(link_text("(01)09506000134352", "a//b"), Err(Error::WrongDomain));
+    let link = "https://a.b/c/01/09506000134352";
+    assert_eq!(link_text("(01)09506000134352", "a.b/c").as_deref(), Ok(link));
     assert_eq!(link_text("(10)A", "a.b"), Err(Error::NoKey));
     for (text, said) in [
         ("(01)09506000134353", "element 1 (01), character 14: wrong check digit"),

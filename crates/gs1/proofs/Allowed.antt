@@ -31,7 +31,7 @@ pub not_wrong : (b : Bool) (place : ℕ) (reason : Reason) → fault_if b place 
 not_wrong true place reason e = absurd (let h : Some (let f : Fault = record { place = place; reason = reason } in f) ≡ None = e in cc)
 not_wrong false place reason e = refl
 
-at_least : (m n : ℕ) → nat_lt m n ≡ false → n ≤ m
+pub at_least : (m n : ℕ) → nat_lt m n ≡ false → n ≤ m
 at_least m n e = grind (arith, common_steps)
 
 pub none_mapped : {X Y : Type 0} (f : X → Y) (o : Option X) → option_map f o ≡ None → o ≡ None
@@ -42,7 +42,7 @@ none_mapped f (Some x) e = absurd (let h : Some (f x) ≡ None = e in cc)
 
 allowed_encodable : (characters : Characters) (c : ℕ) → is_allowed characters c ≡ true → is_encodable c ≡ true
 allowed_encodable Digits c e = digit_encodable c e
-allowed_encodable Set82 c e = e
+allowed_encodable Set82 c e = grind (arith, common_steps)
 allowed_encodable Set39 c e = grind (arith, common_steps)
 allowed_encodable Base64 c e = grind (arith, common_steps)
 allowed_encodable Capitals c e = grind (arith, common_steps)
@@ -53,7 +53,7 @@ characters_encodable characters place piece none =
     All-weaker _ (λ c. is_encodable c ≡ true) (allowed_encodable characters) piece
     (all_allowed (is_allowed characters) piece (none_mapped _ (position (λ c. not (is_allowed characters c)) piece) none))
 
-not_zero : (n : ℕ) → 0 < n → (n == 0) ≡ false
+pub not_zero : (n : ℕ) → 0 < n → (n == 0) ≡ false
 not_zero n some = grind (arith, common_steps)
 
 otherwise : (b : Bool) (fault : Option Fault) → b ≡ false → (if b then None else fault) ≡ None → fault ≡ None

@@ -1,26 +1,36 @@
--- Values that the table allows have at most 90 characters.
+-- Values that the table allows have at most 90 characters, and are cut in one way.
 use Rattle.std.proofs.Common.{◌≡◌, ℕ, ◌+◌, ◌≤◌, Bool, true, false, cond, List, [], ◌∷◌, length, take, drop}
 use Rattle.std.proofs.Common.{refl, arith}
-use Rattle.std.specs.Prelude.{None, nat_lt, nat_le, ◌==◌, ◌||◌}
+use Rattle.std.specs.Prelude.{None, nat_lt, nat_le, ◌==◌, ◌&&◌, ◌||◌}
 use Rattle.std.proofs.lemmas.Grind.{common_steps}
 use Rattle.std.proofs.lemmas.List.{length-drop}
 use Rattle.gs1_base.specs.Characters.{is_within}
 use Rattle.gs1.specs.Elements.{Element}
 use Rattle.gs1.specs.Table.{is_measure, components, components_of_two, components_of_three, components_of_measure, components_of_transport}
-use Rattle.gs1.specs.Table.{components_of_meat, components_of_person, components_of_item, components_of_other, greatest_of}
+use Rattle.gs1.specs.Table.{components_of_meat, components_of_person, components_of_item, components_of_other, greatest_of, least_of}
 use Rattle.gs1.specs.Values.{value_fault, piece_fault, element_error, identifier_error, number_of_identifier}
 use Rattle.gs1.specs.declared.reason.Reason.TheVariants.{TooLong}
 use Rattle.gs1.specs.declared.table.Component.{Component}
-use Rattle.gs1.proofs.Faults.{neither}
+use Rattle.gs1.proofs.Faults.{neither, both}
 use Rattle.gs1.proofs.Allowed.{value_tests, not_wrong}
 
--- The greatest length of a value of components, and whether it is at most 90.
+-- The greatest length of a value of components.
 abbrev total : List Component → ℕ
 total [] = 0
 total (component ∷ rest) = greatest_of component + total rest
 
+-- No component is always empty, and each but the last has one length, so that it is known where
+-- a value is cut.
+abbrev pub is_cut : Component → List Component → Bool
+is_cut component rest =
+    nat_lt 0 (greatest_of component) && ((length rest == 0) || (least_of component == greatest_of component))
+
+abbrev pub are_cut : List Component → Bool
+are_cut [] = true
+are_cut (component ∷ rest) = is_cut component rest && are_cut rest
+
 abbrev fits : List Component → Bool
-fits all = nat_le (total all) 90
+fits all = nat_le (total all) 90 && are_cut all
 
 within_total : (all : List Component) (place : ℕ) (value : List ℕ) → value_fault all place value ≡ None → length value ≤ total all
 within_total [] place value none = least (length value) (not_wrong _ place TooLong none)
@@ -165,6 +175,10 @@ all_fit n =
     (if_fits (is_within 7200 7999 n) _ _ (person_fits n)
     (if_fits (is_within 8000 8009 n) _ _ (item_fits n) (other_fits n)))))))
 
+-- The components of each identifier are cut in one way.
+pub all_cut : (n : ℕ) → are_cut (components n) ≡ true
+all_cut n = (both (nat_le (total (components n)) 90) (are_cut (components n)) (all_fit n)).1
+
 at_most : (m n : ℕ) → nat_le m n ≡ true → m ≤ n
 at_most m n e = grind (arith, common_steps)
 
@@ -174,5 +188,7 @@ short_value number e none =
     let split = neither (identifier_error number e.identifier) _ none in
     let value = value_tests number e.identifier e.value split.1 in
     let within = within_total (components (number_of_identifier e.identifier)) 0 e.value value.1 in
-    let most = at_most (total (components (number_of_identifier e.identifier))) 90 (all_fit (number_of_identifier e.identifier)) in
+    let size = (both (nat_le (total (components (number_of_identifier e.identifier))) 90) (are_cut (components (number_of_identifier e.identifier)))
+    (all_fit (number_of_identifier e.identifier))).0 in
+    let most = at_most (total (components (number_of_identifier e.identifier))) 90 size in
     omega (arith, within, most)

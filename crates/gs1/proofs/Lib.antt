@@ -24,3 +24,4 @@ pub mod ValueChanges
 pub mod Scans
 pub mod Ascii
 pub mod Lengths
+pub mod Pieces

@@ -24,7 +24,7 @@ IsPlaced bytes place = (is_element_character (get_or bytes place 0) ≡ true)
 
 same_character : (c : ℕ) → is_encodable c ≡ true → is_element_character c ≡ true
 unfolding is_element_character
-same_character c e = e
+same_character c e = grind (arith, common_steps)
 
 separates : (c : ℕ) → is_group_separator c ≡ true → c ≡ 0x1d
 separates c e = grind (arith, common_steps)

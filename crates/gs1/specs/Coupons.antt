@@ -1,7 +1,7 @@
 -- Coupon codes of North America: how their digits are cut into fields, and which digits these have
 -- (GS1 General Specifications, "Coupon code identification for use in North America: AI (8110)" and
 -- "Positive offer file: AI (8112)").
-use Rattle.std.specs.Prelude.{ℕ, ◌+◌, ◌-◌, Bool, true, false, ◌==◌, ◌&&◌, ◌||◌, not, nat_lt}
+use Rattle.std.specs.Prelude.{ℕ, ◌+◌, ◌-◌, Bool, true, ◌==◌, ◌&&◌, ◌||◌, not, nat_lt}
 use Rattle.std.specs.Prelude.{if◌then◌else◌, List, [], ◌∷◌, length, drop, slice_index, slice_get}
 use Rattle.std.specs.Prelude.{Option, None, Some}
 use Rattle.std.specs.Option.{option_or, option_map_or}

@@ -52,7 +52,7 @@ bracketed elements = flat_map (λ e. 0x28 ∷ e.identifier ++ 0x29 ∷ e.value) 
 abbrev pub longest_value : ℕ
 longest_value = 90
 
--- A character of a value: a digit if the length is predefined, else one of the 82.
+-- A character of a value: a digit if the length is predefined, else one of the 82 or `#`.
 abbrev pub is_value_character : Bool → ℕ → Bool
 is_value_character is_digits c =
     if is_digits then is_decimal_digit c else is_encodable c

@@ -45,12 +45,17 @@ identifier_length bytes = option_and_then identifier_length_of (prefix bytes)
 abbrev pub predefined_length : List ℕ → Option ℕ
 predefined_length bytes = option_and_then predefined_length_of (prefix bytes)
 
--- Whether a byte is one of the 82 characters of values (GS1 General Specifications, "GS1 AI
+-- Whether a byte is one of the 82 characters of most values (GS1 General Specifications, "GS1 AI
 -- encodable character set 82").
-abbrev pub is_encodable : ℕ → Bool
-is_encodable c =
+abbrev pub is_of_82 : ℕ → Bool
+is_of_82 c =
     is_within 0x21 0x22 c || is_within 0x25 0x3f c || is_within 0x41 0x5a c || (c == 0x5f)
     || is_within 0x61 0x7a c
+
+-- Whether a byte is a character of values: one of the 82, or the number sign ("GS1 AI encodable
+-- character set 39"). A symbol has the number sign in Byte segments alone.
+abbrev pub is_encodable : ℕ → Bool
+is_encodable c = is_of_82 c || (c == 0x23)
 
 -- Whether the values of an identifier end with a check digit: those of 00, 01, 02 and 410 to 417
 -- (GS1 General Specifications, "GS1 Application Identifier definitions").

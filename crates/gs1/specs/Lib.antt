@@ -6,6 +6,7 @@ pub mod Keys
 pub mod Table
 pub mod Elements
 pub mod Values
+pub mod Pieces
 pub mod Reader
 pub mod Strings
 pub mod Checked

@@ -125,7 +125,7 @@ components_of_meat n =
     else (if n == 7040
     then Needed Digits 1 1 Nothing ∷ Needed Set82 1 1 Nothing ∷ Needed Set82 1 1 Nothing ∷
     Needed Set82 1 1 Importer ∷ []
-    else (if n == 7041 then Needed Set82 1 4 Nothing ∷ []
+    else (if n == 7041 then Needed Capitals 1 4 Nothing ∷ []
     else [])))))))))))))))
 
 unfoldable pub components_of_person : ℕ → List Component

@@ -4,7 +4,7 @@ use Rattle.std.specs.Prelude.{◌≡◌, ℕ, ◌+◌, ◌*◌, Bool, ◌==◌, 
 use Rattle.std.specs.Prelude.{if◌then◌else◌, List, [], ◌∷◌, length, take, drop, position}
 use Rattle.std.specs.Prelude.{slice_index, Option, None, Some, unwrap_or}
 use Rattle.std.specs.Option.{option_or, option_map}
-use Rattle.gs1.specs.Identifiers.{is_encodable, identifier_length}
+use Rattle.gs1.specs.Identifiers.{is_of_82, identifier_length}
 use Rattle.gs1_base.specs.Characters.{is_within, is_decimal_digit}
 use Rattle.gs1.specs.Checks.{fault_if, two_digits, decimal_at, date_fault, long_date_fault, hour_fault}
 use Rattle.gs1.specs.Checks.{hour_minute_fault, minute_fault, second_fault, country_fault}
@@ -38,13 +38,12 @@ use Rattle.gs1.specs.declared.refusal.CheckError.TheVariants.{OutOfMemory}
 -- ---- Values
 
 -- Whether a component may have a character (GS1 General Specifications, "GS1 AI encodable character
--- set 82", "set 39" and "set 64"). Of set 39 the number sign is left out, since no symbol of
--- elements has it.
+-- set 82", "set 39" and "set 64").
 abbrev pub is_allowed : Characters → ℕ → Bool
 is_allowed Digits c = is_decimal_digit c
-is_allowed Set82 c = is_encodable c
+is_allowed Set82 c = is_of_82 c
 is_allowed Set39 c =
-    is_decimal_digit c || is_within 0x41 0x5a c || (c == 0x2d) || (c == 0x2f)
+    is_decimal_digit c || is_within 0x41 0x5a c || (c == 0x23) || (c == 0x2d) || (c == 0x2f)
 is_allowed Base64 c =
     is_decimal_digit c || is_within 0x41 0x5a c || is_within 0x61 0x7a c || (c == 0x2d)
     || (c == 0x3d) || (c == 0x5f)

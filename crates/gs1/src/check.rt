@@ -78,7 +78,7 @@ fn wrong_character(is_digits: bool, value: &[u8]) -> Option<usize>
         .position(|c| !is_value_character(is_digits, *c))
 }
 
-/// Returns whether a value may have a character: a digit, or any of the 82.
+/// Returns whether a value may have a character: a digit, or any of the 82 and `#`.
 fn is_value_character(is_digits: bool, c: u8) -> bool
     ensures { result ≡ is_value_character is_digits c }
 {

@@ -31,8 +31,8 @@ pub enum Gs1Error {
     ValueTooLong {
         element: usize,
     },
-    /// The byte at this position of the value, counted from 0, is none of GS1's 82 characters, or
-    /// no digit where the length is predefined.
+    /// The byte at this position of the value, counted from 0, is none of GS1's 82 characters and
+    /// no `#`, or no digit where the length is predefined.
     #[error("element {element}: invalid character byte {byte:#04x} at position {position}")]
     InvalidCharacter {
         element: usize,

@@ -2,6 +2,7 @@
 ghost use Rattle.std.specs.Prelude.{◌≡◌, ◌↔◌, ◌+◌, ◌-◌, ◌%◌, ◌<◌, ◌^◌, length, IfSome, IsSome};
 ghost use Rattle.gs1.specs.Identifiers.{prefix, identifier_length_of, predefined_length_of};
 ghost use Rattle.gs1.specs.Identifiers.{identifier_length, predefined_length, is_encodable};
+ghost use Rattle.gs1.specs.Identifiers.{is_of_82};
 ghost use Rattle.gs1.specs.Identifiers.{has_check_digit, has_right_check_digit, weighted_sum};
 ghost use Rattle.gs1.specs.Identifiers.{IsRightDigit, AreFewDigits};
 
@@ -70,11 +71,18 @@ pub(crate) fn predefined_length(bytes: &[u8]) -> Option<usize>
     }
 }
 
-/// Returns whether a byte is one of the 82 characters of values.
+/// Returns whether a byte is one of the 82 characters of most values.
+pub(crate) fn is_of_82(byte: u8) -> bool
+    ensures { result ≡ is_of_82 byte }
+{
+    matches!(byte, 0x21..=0x22 | 0x25..=0x3f | b'A'..=b'Z' | b'_' | b'a'..=b'z')
+}
+
+/// Returns whether a byte is a character of values: one of the 82, or the number sign.
 pub(crate) fn is_encodable(byte: u8) -> bool
     ensures { result ≡ is_encodable byte }
 {
-    matches!(byte, 0x21..=0x22 | 0x25..=0x3f | b'A'..=b'Z' | b'_' | b'a'..=b'z')
+    is_of_82(byte) || byte == b'#'
 }
 
 /// Returns whether the values of an identifier end with a check digit.

@@ -1,5 +1,6 @@
 //! Laws: facts about element strings. Each function has no body; its contract is the fact.
 ghost use Rattle.gs1.specs.Keys.{HaveRightDigits};
+ghost use Rattle.gs1.specs.Pieces.{ValuesAreJoined};
 ghost use Rattle.gs1.specs.Reader.{HaveOneList, HaveStringsApart};
 ghost use Rattle.gs1.specs.Strings.{HaveOneOutcome};
 
@@ -21,4 +22,9 @@ pub fn have_one_outcome()
 /// The check digit that a refusal names is right, and no other is.
 pub fn have_right_digits()
     ensures { HaveRightDigits }
+{}
+
+/// The table allows exactly the values that are joined pieces, one of each component.
+pub fn are_joined()
+    ensures { ValuesAreJoined }
 {}

@@ -60,8 +60,8 @@ pub use together::{TogetherError, check_together};
 /// element that has one. An element is checked in this order: `InvalidIdentifier` (not two to four
 /// digits), `UnknownIdentifier` (none with these first two digits is assigned, or they have another
 /// number of digits), `EmptyValue`, `ValueTooLong` (over 90 characters), `InvalidCharacter` (none
-/// of GS1's 82 characters, or no digit where the length is predefined), `WrongLength` (the
-/// predefined length is another) and `WrongCheckDigit` (of 00, 01, 02 and 410 to 417).
+/// of GS1's 82 characters and no `#`, or no digit where the length is predefined), `WrongLength`
+/// (the predefined length is another) and `WrongCheckDigit` (of 00, 01, 02 and 410 to 417).
 /// `OutOfMemory` if the text has no fault and an allocation failed.
 pub fn element_string(alloc: Global, text: &str) -> Result<Vec<u8>, Gs1Error>
     // The text writes the elements, and a reader finds them.

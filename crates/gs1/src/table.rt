@@ -305,7 +305,7 @@ fn of_meat(number: usize) -> &'static [Component]
             Needed(Set82, 1, 1, Nothing),
             Needed(Set82, 1, 1, Importer),
         ],
-        7041 => &[Needed(Set82, 1, 4, Nothing)],
+        7041 => &[Needed(Capitals, 1, 4, Nothing)],
         _ => &[],
     }
 }

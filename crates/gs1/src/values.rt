@@ -21,7 +21,7 @@ use crate::dates::{
     check_date, check_hour, check_hour_minute, check_long_date, check_minute, check_second,
     decimal_at, two_digits,
 };
-use crate::identifiers::{identifier_length, is_encodable};
+use crate::identifiers::{identifier_length, is_of_82};
 use crate::keys::{check_digit, check_iban, check_model};
 use crate::reason::{Fault, Reason, fault_if};
 use crate::refusal::CheckError;
@@ -34,8 +34,8 @@ fn is_allowed(characters: Characters, c: u8) -> bool
 {
     match characters {
         Characters::Digits => matches!(c, b'0'..=b'9'),
-        Characters::Set82 => is_encodable(c),
-        Characters::Set39 => matches!(c, b'0'..=b'9' | b'A'..=b'Z' | b'-' | b'/'),
+        Characters::Set82 => is_of_82(c),
+        Characters::Set39 => matches!(c, b'#' | b'0'..=b'9' | b'A'..=b'Z' | b'-' | b'/'),
         Characters::Base64 => {
             matches!(c, b'0'..=b'9' | b'A'..=b'Z' | b'a'..=b'z' | b'-' | b'=' | b'_')
         }

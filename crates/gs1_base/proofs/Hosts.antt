@@ -1,4 +1,4 @@
--- Labels of host names, and numbers of ports.
+-- Labels of host names, numbers of ports, and segments of paths.
 use Rattle.std.proofs.Common.{◌≡◌, ℕ, ◌+◌, ◌-◌, ◌*◌, ◌<◌, ◌≤◌, Bool, true, false, List, [], ◌∷◌, length, take, drop, get_or}
 use Rattle.std.proofs.Common.{refl, arith, ap, sym, ◌∙◌, inl, inr}
 use Rattle.std.specs.Prelude.{◌&&◌}
@@ -9,22 +9,59 @@ use Rattle.std.proofs.lemmas.List.{take_all, drop_more, length-take-le}
 use Rattle.std.proofs.lemmas.List.Splits.{slice_split_first, slice_split_none}
 use Rattle.std.proofs.lemmas.List.Sums.{fails_before_first}
 use Rattle.gs1_base.specs.Characters.{is_within}
-use Rattle.gs1_base.specs.Domains.{is_dot, is_label, are_labels, number_after}
+use Rattle.gs1_base.specs.Domains.{is_dot, is_label, are_labels, number_after, is_slash, is_segment}
+
+-- ---- Parts between separators
+
+parts_more : (p : ℕ → Bool) (good : List ℕ → Bool) (xs : List ℕ) (end : ℕ) → end ≡ position_or_len p xs → end < length xs →
+    list_all good (slice_split p xs) ≡ (good (take end xs) && list_all good (slice_split p (drop (end + 1) xs)))
+parts_more p good xs end e within =
+    rw e (ap (list_all good) (slice_split_first p xs 0 (let w : position_or_len p xs < length xs = omega arith in w)))
+
+alone : (p : ℕ → Bool) (xs : List ℕ) → position_or_len p xs ≡ length xs → slice_split p xs ≡ xs ∷ []
+alone p xs none = slice_split_none p xs
+    (λ k d within. fails_before_first p xs k d (let w : k < position_or_len p xs = omega arith in w))
+
+parts_last : (p : ℕ → Bool) (good : List ℕ → Bool) (xs : List ℕ) (end : ℕ) → end ≡ position_or_len p xs → end ≡ length xs →
+    list_all good (slice_split p xs) ≡ (good (take end xs) && true)
+parts_last p good xs end e whole =
+    let all : take end xs ≡ xs = take_all end xs (let w : length xs ≤ end = omega arith in w) in
+    rw all (ap (list_all good) (alone p xs (omega arith)))
+
+-- The first part is wrong.
+pub part_wrong : (p : ℕ → Bool) (good : List ℕ → Bool) (xs : List ℕ) (end : ℕ) (whole : Bool) → end ≡ position_or_len p xs →
+    end ≤ length xs → good (take end xs) ≡ false → list_all good (slice_split p xs) ≡ whole → false ≡ whole
+part_wrong p good xs end whole place within bad e =
+    elim (cases_lt end (length xs)) [
+      | inl more ↦ sym (let step = parts_more p good xs end place more in rw bad at step) ∙ e
+      | inr last ↦ sym (let step = parts_last p good xs end place (omega arith) in rw bad at step) ∙ e
+    ]
+
+-- The last part is right.
+pub part_last : (p : ℕ → Bool) (good : List ℕ → Bool) (xs : List ℕ) (end : ℕ) (whole : Bool) → end ≡ position_or_len p xs →
+    end ≡ length xs → good (take end xs) ≡ true → list_all good (slice_split p xs) ≡ whole → true ≡ whole
+part_last p good xs end whole place last right e =
+    sym (let step = parts_last p good xs end place last in rw right at step) ∙ e
+
+-- The first part is right, and there are others.
+pub part_behind : (p : ℕ → Bool) (good : List ℕ → Bool) (xs rest : List ℕ) (end : ℕ) (whole : Bool) →
+    end ≡ position_or_len p xs → end ≤ length xs → (end ≡ length xs → ⊥) → good (take end xs) ≡ true →
+    rest ≡ drop (end + 1) xs → list_all good (slice_split p xs) ≡ whole → list_all good (slice_split p rest) ≡ whole
+part_behind p good xs rest end whole place within more right rest_is e =
+    rw rest_is (sym (let step = parts_more p good xs end place (omega arith) in rw right at step) ∙ e)
+
+-- The parts behind the first one: none without a separator.
+pub segments_none : (xs : List ℕ) (end : ℕ) → end ≡ position_or_len is_slash xs → end ≡ length xs →
+    list_all is_segment (drop 1 (slice_split is_slash xs)) ≡ true
+segments_none xs end e whole = ap (λ parts. list_all is_segment (drop 1 parts)) (alone is_slash xs (omega arith))
+
+pub segments_more : (xs : List ℕ) (end : ℕ) → end ≡ position_or_len is_slash xs → end ≤ length xs → (end ≡ length xs → ⊥) →
+    list_all is_segment (drop 1 (slice_split is_slash xs)) ≡ list_all is_segment (slice_split is_slash (drop (end + 1) xs))
+segments_more xs end e within more =
+    rw e (ap (λ parts. list_all is_segment (drop 1 parts))
+    (slice_split_first is_slash xs 0 (let w : position_or_len is_slash xs < length xs = omega arith in w)))
 
 -- ---- Labels
-
-labels_more : (host : List ℕ) (end : ℕ) → end ≡ position_or_len is_dot host → end < length host →
-    are_labels host ≡ (is_label (take end host) && are_labels (drop (end + 1) host))
-labels_more host end e within =
-    rw e (ap (list_all is_label) (slice_split_first is_dot host 0 (let w : position_or_len is_dot host < length host = omega arith in w)))
-
-labels_last : (host : List ℕ) (end : ℕ) → end ≡ position_or_len is_dot host → end ≡ length host →
-    are_labels host ≡ (is_label (take end host) && true)
-labels_last host end e whole =
-    let all : take end host ≡ host = take_all end host (let w : length host ≤ end = omega arith in w) in
-    let none : position_or_len is_dot host ≡ length host = omega arith in
-    rw all (ap (list_all is_label) (slice_split_none is_dot host
-    (λ k d within. fails_before_first is_dot host k d (let w : k < position_or_len is_dot host = omega arith in w))))
 
 -- A label has the length that its end says.
 label_length : (host : List ℕ) (end : ℕ) (is : Bool) → end ≤ length host → is_within 1 63 end ≡ is → is_label (take end host) ≡ is
@@ -34,26 +71,20 @@ label_length host end is within e = ap (is_within 1 63) (length-take-le end host
 pub label_wrong : (host : List ℕ) (end : ℕ) (whole : Bool) → end ≡ position_or_len is_dot host → end ≤ length host →
     is_within 1 63 end ≡ false → are_labels host ≡ whole → false ≡ whole
 label_wrong host end whole place within wrong e =
-    let bad = label_length host end false within wrong in
-    elim (cases_lt end (length host)) [
-      | inl more ↦ sym (let step = labels_more host end place more in rw bad at step) ∙ e
-      | inr last ↦ sym (let step = labels_last host end place (omega arith) in rw bad at step) ∙ e
-    ]
+    part_wrong is_dot is_label host end whole place within (label_length host end false within wrong) e
 
 -- The last label has a right one.
 pub label_last : (host : List ℕ) (end : ℕ) (whole : Bool) → end ≡ position_or_len is_dot host → end ≤ length host →
     end ≡ length host → is_within 1 63 end ≡ true → are_labels host ≡ whole → true ≡ whole
 label_last host end whole place within last right e =
-    let good = label_length host end true within right in
-    sym (let step = labels_last host end place last in rw good at step) ∙ e
+    part_last is_dot is_label host end whole place last (label_length host end true within right) e
 
 -- The first label has a right one, and there are others.
 pub label_behind : (host rest : List ℕ) (end : ℕ) (whole : Bool) → end ≡ position_or_len is_dot host → end ≤ length host →
     (end ≡ length host → ⊥) → is_within 1 63 end ≡ true → rest ≡ drop (end + 1) host →
     are_labels host ≡ whole → are_labels rest ≡ whole
 label_behind host rest end whole place within more right rest_is e =
-    let good = label_length host end true within right in
-    rw rest_is (sym (let step = labels_more host end place (omega arith) in rw good at step) ∙ e)
+    part_behind is_dot is_label host rest end whole place within more (label_length host end true within right) rest_is e
 
 -- ---- Ports
 

@@ -102,7 +102,7 @@ fn push_escape(text: &mut Vec<u8>, byte: u8) -> Result<(), AllocError>
 }
 
 /// Returns whether a byte needs no escape.
-fn is_unreserved(byte: u8) -> bool
+pub(crate) fn is_unreserved(byte: u8) -> bool
     ensures { result ≡ is_unreserved byte }
 {
     matches!(byte, b'-' | b'.' | b'0'..=b'9' | b'A'..=b'Z' | b'_' | b'a'..=b'z' | b'~')

@@ -1,10 +1,10 @@
 -- How the text of a link is cut: into its path and its query, its segments and its parts.
-use Rattle.std.proofs.Common.{◌≡◌, ℕ, ◌+◌, ◌<◌, Bool, true, false, suc, List, [], ◌∷◌, ◌++◌}
+use Rattle.std.proofs.Common.{◌≡◌, ◌≢◌, ℕ, ◌+◌, ◌<◌, Bool, true, false, cond, suc, List, [], ◌∷◌, ◌++◌}
 use Rattle.std.proofs.Common.{length, take, drop, refl, arith, ap, sym, ◌∙◌, append_assoc, length-append}
 use Rattle.std.specs.Prelude.{All}
-use Rattle.std.specs.List.{slice_split, position_or_len, before_first, after_first, flat_map}
+use Rattle.std.specs.List.{slice_split, onto_first, position_or_len, before_first, after_first, flat_map}
 use Rattle.std.proofs.lemmas.List.{take_at, drop_at, drop_all, append-nil}
-use Rattle.std.proofs.lemmas.List.Elements.{All-head, All-tail}
+use Rattle.std.proofs.lemmas.List.Elements.{All-nil, All-head, All-tail}
 use Rattle.std.proofs.lemmas.List.Splits.{slice_split_none, slice_split_at}
 
 -- No element of the list passes the test.
@@ -67,3 +67,33 @@ split_pieces p c passes first [] free all = rw (append-nil first) (slice_split_n
 split_pieces p c passes first (piece ∷ pieces) free all =
     slice_split_at p first c (piece ++ flat_map (λ x. c ∷ x) pieces) free passes
     ∙ ap (λ xs. first ∷ xs) (split_pieces p c passes piece pieces all.0 all.1)
+
+onto_more : (x : ℕ) (parts pieces : List (List ℕ)) → parts ≢ [] → onto_first x (parts ++ pieces) ≡ onto_first x parts ++ pieces
+onto_more x [] pieces some = absurd (some refl)
+onto_more x (part ∷ parts) pieces some = refl
+
+-- There is always a first part.
+some_parts : (p : ℕ → Bool) (xs : List ℕ) → slice_split p xs ≢ []
+some_parts p [] e = let h : [] ∷ [] ≡ [] = e in cc
+some_parts p (x ∷ xs) e =
+    elim (p x) as (λ b. cond b ([] ∷ slice_split p xs) (onto_first x (slice_split p xs)) ≡ [] → ⊥) [
+      | true ↦ λ h. (let k : [] ∷ slice_split p xs ≡ [] = h in cc)
+      | false ↦ λ h. onto_some x (slice_split p xs) h
+    ] e
+  where
+    onto_some : (x : ℕ) (parts : List (List ℕ)) → onto_first x parts ≡ [] → ⊥
+    onto_some x [] h = let k : (x ∷ []) ∷ [] ≡ [] = h in cc
+    onto_some x (part ∷ parts) h = let k : (x ∷ part) ∷ parts ≡ [] = h in cc
+
+-- Pieces behind a text that is cut itself.
+pub split_behind : (p : ℕ → Bool) (c : ℕ) → p c ≡ true → (front : List ℕ) (pieces : List (List ℕ)) → AreFree p pieces →
+    slice_split p (front ++ flat_map (λ piece. c ∷ piece) pieces) ≡ slice_split p front ++ pieces
+split_behind p c passes [] pieces all = split_pieces p c passes [] pieces (All-nil (λ x. p x ≡ false)) all
+split_behind p c passes (x ∷ front) pieces all =
+    let back : List ℕ = flat_map (λ piece. c ∷ piece) pieces in
+    let below = split_behind p c passes front pieces all in
+    elim (p x) as (λ b. cond b ([] ∷ slice_split p (front ++ back)) (onto_first x (slice_split p (front ++ back)))
+    ≡ cond b ([] ∷ slice_split p front) (onto_first x (slice_split p front)) ++ pieces) [
+      | true ↦ ap (λ parts. [] ∷ parts) below
+      | false ↦ ap (onto_first x) below ∙ onto_more x (slice_split p front) pieces (some_parts p front)
+    ]

@@ -7,9 +7,9 @@ use Rattle.std.proofs.lemmas.Bool.{cases_lt}
 use Rattle.std.proofs.lemmas.List.{take_all}
 use Rattle.std.proofs.lemmas.List.Sums.{fails_before_first}
 use Rattle.std.proofs.lemmas.List.Splits.{slice_split_first, slice_split_none}
-use Rattle.gs1_base.specs.Domains.{is_domain}
-use Rattle.gs1_links.specs.LinkReader.{is_slash, is_question}
-use Rattle.gs1_links.specs.LinkFaults.{path_in, after_scheme, scheme_fault, link_character_fault, rest_of, before_query, link_domain_fault, path_of}
+use Rattle.gs1_base.specs.Domains.{is_host, is_slash}
+use Rattle.gs1_links.specs.LinkReader.{is_question, after_scheme}
+use Rattle.gs1_links.specs.LinkFaults.{path_in, scheme_fault, link_character_fault, rest_of, before_query, link_domain_fault, path_of}
 use Rattle.gs1_links.specs.LinkFaults.{link_key_fault, front_fault}
 use Rattle.gs1_links.specs.declared.link_error.LinkReadError.TheVariants.{WrongDomain, NoKey}
 use Rattle.gs1_links.proofs.OneLink.{same_first}
@@ -52,11 +52,11 @@ front_of_link link rest front left end scheme characters at cut =
       path = ap (λ xs. path_in (drop 1 xs)) whole;
     }
 
-domain_wrong : (link : List ℕ) → is_domain (before_first is_slash (before_query link)) ≡ false → link_domain_fault link ≡ Some WrongDomain
+domain_wrong : (link : List ℕ) → is_host (before_first is_slash (before_query link)) ≡ false → link_domain_fault link ≡ Some WrongDomain
 unfolding link_domain_fault
 domain_wrong link e = rw e refl
 
-domain_right : (link : List ℕ) → is_domain (before_first is_slash (before_query link)) ≡ true → link_domain_fault link ≡ None
+domain_right : (link : List ℕ) → is_host (before_first is_slash (before_query link)) ≡ true → link_domain_fault link ≡ None
 unfolding link_domain_fault
 domain_right link e = rw e refl
 
@@ -68,22 +68,22 @@ key_right : (link : List ℕ) (path : List (List ℕ)) → path_of link ≡ Some
 unfolding link_key_fault
 key_right link path e = rw e refl
 
-pub wrong_domain : (link front : List ℕ) (left : List (List ℕ)) → IsFront link front left → is_domain front ≡ false →
+pub wrong_domain : (link front : List ℕ) (left : List (List ℕ)) → IsFront link front left → is_host front ≡ false →
     Some WrongDomain ≡ front_fault link
 wrong_domain link front left f wrong =
-    let domain = domain_wrong link (subst (λ d. is_domain d ≡ false) (sym f.domain) wrong) in
+    let domain = domain_wrong link (subst (λ d. is_host d ≡ false) (sym f.domain) wrong) in
     sym (rw (f.scheme, f.characters, domain) refl)
 
-pub no_key_found : (link front : List ℕ) (left : List (List ℕ)) → IsFront link front left → is_domain front ≡ true →
+pub no_key_found : (link front : List ℕ) (left : List (List ℕ)) → IsFront link front left → is_host front ≡ true →
     None ≡ path_in left → Some NoKey ≡ front_fault link
 no_key_found link front left f right none =
-    let domain = domain_right link (subst (λ d. is_domain d ≡ true) (sym f.domain) right) in
+    let domain = domain_right link (subst (λ d. is_host d ≡ true) (sym f.domain) right) in
     let key = key_wrong link (f.path ∙ sym none) in
     sym (rw (f.scheme, f.characters, domain, key) refl)
 
-pub no_front_fault : (link front : List ℕ) (left path : List (List ℕ)) → IsFront link front left → is_domain front ≡ true →
+pub no_front_fault : (link front : List ℕ) (left path : List (List ℕ)) → IsFront link front left → is_host front ≡ true →
     Some path ≡ path_in left → None ≡ front_fault link
 no_front_fault link front left path f right found =
-    let domain = domain_right link (subst (λ d. is_domain d ≡ true) (sym f.domain) right) in
+    let domain = domain_right link (subst (λ d. is_host d ≡ true) (sym f.domain) right) in
     let key = key_right link path (f.path ∙ sym found) in
     sym (rw (f.scheme, f.characters, domain, key) refl)

@@ -13,13 +13,12 @@ use Rattle.std.proofs.lemmas.List.Sums.{list_all-from_AllPass, AllPass-from_list
 use Rattle.gs1.specs.Elements.{Element, written_elements}
 use Rattle.gs1.specs.Values.{element_error, identifier_error, number_of_identifier}
 use Rattle.gs1.specs.Together.{is_among, first_conflict}
-use Rattle.gs1_base.specs.Domains.{is_domain}
-use Rattle.gs1_links.specs.Links.{keys, number, order_of, https, link_of, linked}
-use Rattle.gs1_links.specs.LinkReader.{http, is_slash, is_question, is_link_character, query_parts, ReadsPath, has_twins}
+use Rattle.gs1_base.specs.Domains.{is_host, is_slash}
+use Rattle.gs1_links.specs.Links.{keys, number, order_of, link_of, linked}
+use Rattle.gs1_links.specs.LinkReader.{after_scheme, is_question, is_link_character, query_parts, ReadsPath, has_twins}
 use Rattle.gs1_links.specs.LinkReader.{ReadsLink}
 use Rattle.gs1_links.specs.LinkFaults.{decoded_element, written_fault, is_key_text, path_in, pairs, qualifiers_fault, path_fault}
-use Rattle.gs1_links.specs.LinkFaults.{begins_http, goes_on_secure, goes_on_plain}
-use Rattle.gs1_links.specs.LinkFaults.{path_key, query_fault, twins_fault, after_scheme, scheme_fault, link_character_fault, rest_of, before_query, query_of}
+use Rattle.gs1_links.specs.LinkFaults.{path_key, query_fault, twins_fault, scheme_fault, link_character_fault, rest_of, before_query, query_of}
 use Rattle.gs1_links.specs.LinkFaults.{link_domain_fault, path_of, link_key_fault, front_fault, path_pairs, query_parts_of, reading_fault, link_elements}
 use Rattle.gs1_links.specs.LinkFaults.{parts_fault, link_together_fault, elements_in}
 use Rattle.gs1_links.specs.LinkFaults.{LinksAreReadOrRefused, LinksAreReadBack}
@@ -33,77 +32,6 @@ use Rattle.gs1_links.proofs.LinkFronts.{split_first}
 use Rattle.gs1_links.proofs.LinkTogether.{numbers_same, together_numbers, read_numbers}
 use Rattle.gs1_links.proofs.LinkStems.{found_path, path_is}
 use Rattle.gs1_links.proofs.LinkQueries.{read_part, sound_parts, parts_are, query_none, no_twins, twins_none}
-
--- ---- The scheme
-
-no_zero : (c : ℕ) → (0 == suc c) ≡ true → ⊥
-no_zero c e = grind (arith, common_steps)
-
-byte_is : (c n : ℕ) (xs : List ℕ) → (slice_index xs n == suc c) ≡ true → drop n xs ≡ suc c ∷ drop (suc n) xs
-byte_is c zero [] e = absurd (no_zero c e)
-byte_is c (suc n) [] e = absurd (no_zero c e)
-byte_is c zero (x ∷ xs) e = ap (λ y. y ∷ xs) (same x (suc c) e)
-  where
-    same : (m n : ℕ) → (m == n) ≡ true → m ≡ n
-    same m n e = grind (arith, common_steps)
-byte_is c (suc n) (x ∷ xs) e = byte_is c n xs e
-
-front_http : (link : List ℕ) → begins_http link ≡ true → link ≡ 0x68 ∷ 0x74 ∷ 0x74 ∷ 0x70 ∷ drop 4 link
-front_http link e =
-    let a = both _ (slice_index link 3 == 0x70) e in
-    let b = both _ (slice_index link 2 == 0x74) a.0 in
-    let c = both (slice_index link 0 == 0x68) (slice_index link 1 == 0x74) b.0 in
-    byte_is 0x67 0 link c.0 ∙ ap (λ xs. 0x68 ∷ xs) (byte_is 0x73 1 link c.1 ∙ ap (λ xs. 0x74 ∷ xs)
-    (byte_is 0x73 2 link b.1 ∙ ap (λ xs. 0x74 ∷ xs) (byte_is 0x6f 3 link a.1)))
-
-rest_s : (link : List ℕ) → goes_on_secure link ≡ true → drop 4 link ≡ 0x73 ∷ 0x3a ∷ 0x2f ∷ 0x2f ∷ drop 8 link
-rest_s link e =
-    let a = both _ (slice_index link 7 == 0x2f) e in
-    let b = both _ (slice_index link 6 == 0x2f) a.0 in
-    let c = both (slice_index link 4 == 0x73) (slice_index link 5 == 0x3a) b.0 in
-    byte_is 0x72 4 link c.0 ∙ ap (λ xs. 0x73 ∷ xs) (byte_is 0x39 5 link c.1 ∙ ap (λ xs. 0x3a ∷ xs)
-    (byte_is 0x2e 6 link b.1 ∙ ap (λ xs. 0x2f ∷ xs) (byte_is 0x2e 7 link a.1)))
-
-rest_plain : (link : List ℕ) → goes_on_plain link ≡ true → drop 4 link ≡ 0x3a ∷ 0x2f ∷ 0x2f ∷ drop 7 link
-rest_plain link e =
-    let a = both _ (slice_index link 6 == 0x2f) e in
-    let b = both (slice_index link 4 == 0x3a) (slice_index link 5 == 0x2f) a.0 in
-    byte_is 0x39 4 link b.0 ∙ ap (λ xs. 0x3a ∷ xs) (byte_is 0x2e 5 link b.1 ∙ ap (λ xs. 0x2f ∷ xs) (byte_is 0x2e 6 link a.1))
-
-same_text : (x y : List ℕ) → Some x ≡ Some y → x ≡ y
-same_text x y e = cc
-
-no_text : (x : List ℕ) → None ≡ Some x → ⊥
-no_text x e = cc
-
-scheme_is : (link rest : List ℕ) → after_scheme link ≡ Some rest → (link ≡ https ++ rest) ⊎ (link ≡ http ++ rest)
-unfolding after_scheme
-scheme_is link rest is =
-    elim (begins_http link && goes_on_secure link) as (λ b. (begins_http link && goes_on_secure link) ≡ b →
-    cond b (Some (drop 8 link)) (cond (begins_http link && goes_on_plain link) (Some (drop 7 link)) None) ≡ Some rest →
-    (link ≡ https ++ rest) ⊎ (link ≡ http ++ rest)) [
-      | true ↦ λ e k.
-          (let each = both (begins_http link) (goes_on_secure link) e in
-          inl (front_http link each.0 ∙ ap (λ xs. 0x68 ∷ 0x74 ∷ 0x74 ∷ 0x70 ∷ xs) (rest_s link each.1)
-          ∙ ap (λ xs. https ++ xs) (same_text (drop 8 link) rest k)))
-      | false ↦ λ e k.
-          elim (begins_http link && goes_on_plain link) as (λ b. (begins_http link && goes_on_plain link) ≡ b →
-          cond b (Some (drop 7 link)) None ≡ Some rest → (link ≡ https ++ rest) ⊎ (link ≡ http ++ rest)) [
-            | true ↦ λ p j.
-                (let each = both (begins_http link) (goes_on_plain link) p in
-                inr (front_http link each.0 ∙ ap (λ xs. 0x68 ∷ 0x74 ∷ 0x74 ∷ 0x70 ∷ xs) (rest_plain link each.1)
-                ∙ ap (λ xs. http ++ xs) (same_text (drop 7 link) rest j)))
-            | false ↦ λ p j. absurd (no_text rest j)
-          ] refl k
-    ] refl is
-
-after_is : (link rest : List ℕ) → (link ≡ https ++ rest) ⊎ (link ≡ http ++ rest) → after_scheme link ≡ Some rest
-unfolding after_scheme
-after_is link rest e =
-    elim e [
-      | inl s ↦ ap after_scheme s
-      | inr p ↦ ap after_scheme p
-    ]
 
 -- ---- Parts
 
@@ -144,11 +72,11 @@ none_characters link all =
         let f = position-Some (λ c. not (is_link_character c)) link i 0 e in
         absurd (opposite (is_link_character (get_or link i 0)) (AllPass-from_list_all is_link_character link all i 0 f.0) f.1)
 
-domain_none : (link : List ℕ) → link_domain_fault link ≡ None → is_domain (before_first is_slash (before_query link)) ≡ true
+domain_none : (link : List ℕ) → link_domain_fault link ≡ None → is_host (before_first is_slash (before_query link)) ≡ true
 unfolding link_domain_fault
-domain_none link e = some_is (is_domain (before_first is_slash (before_query link))) WrongDomain e
+domain_none link e = some_is (is_host (before_first is_slash (before_query link))) WrongDomain e
 
-none_domain : (link : List ℕ) → is_domain (before_first is_slash (before_query link)) ≡ true → link_domain_fault link ≡ None
+none_domain : (link : List ℕ) → is_host (before_first is_slash (before_query link)) ≡ true → link_domain_fault link ≡ None
 unfolding link_domain_fault
 none_domain link e = rw e refl
 
@@ -180,9 +108,9 @@ StandTogether elements = first_conflict elements 0 elements ≡ None
 
 -- The link has these parts, and no fault in them.
 record IsSoundLink (link rest : List ℕ) (stem : List (List ℕ)) (i t : List ℕ) (more : List (List ℕ)) : Type 0 where
-  scheme : (link ≡ https ++ rest) ⊎ (link ≡ http ++ rest)
+  scheme : after_scheme link ≡ Some rest
   characters : list_all is_link_character link ≡ true
-  domain : is_domain (before_first is_slash (before_first is_question rest)) ≡ true
+  domain : is_host (before_first is_slash (before_first is_question rest)) ≡ true
   cut : slice_split is_slash (before_first is_question rest) ≡
       before_first is_slash (before_first is_question rest) ∷ stem ++ (i ∷ t ∷ more)
   is_key : is_key_text i ≡ true
@@ -272,8 +200,7 @@ link_reads link none =
     let R : Option (List (List ℕ)) → Type 0 = λ o. query_fault (path_key (pairs (unwrap_or o []))) (N o) (query_parts_of link) ≡ None in
     let S : Option (List (List ℕ)) → Type 0 = λ o. twins_fault (N o) (query_parts_of link) ≡ None in
     let sound : IsSoundLink link (rest_of link) is.stem is.identifier tail.0 tail.1 = record {
-      scheme = (let T : List ℕ → Type 0 = λ r. (link ≡ https ++ r) ⊎ (link ≡ http ++ r) in
-          subst T (sym rest) (scheme_is link scheme.0 scheme.1));
+      scheme = scheme.1 ∙ ap Some (sym rest);
       characters = characters_are link f2.0;
       domain = domain_none link f3.0;
       cut = split_first (before_query link) ∙ ap (λ xs. before_first is_slash (before_query link) ∷ xs) joined;
@@ -314,7 +241,7 @@ read_has_no_fault link elements rd =
     let path_allowed : All P (rd.key ∷ rd.qualifying) =
     subst (All P) (take_at (rd.key ∷ rd.qualifying) rd.query (length (rd.key ∷ rd.qualifying)) refl)
     (All-take P (length (rd.key ∷ rd.qualifying)) (rd.key ∷ rd.qualifying ++ rd.query) rd.linked.allowed) in
-    let scheme = after_is link rd.parts.rest rd.parts.scheme_is in
+    let scheme = rd.parts.scheme_is in
     let rest : rest_of link ≡ rd.parts.rest = ap (λ o. unwrap_or o []) scheme in
     let whole : slice_split is_slash (before_query link) ≡ rd.parts.domain ∷ (rd.parts.stem ++ rd.parts.segments) =
     ap (λ r. slice_split is_slash (before_first is_question r)) rest ∙ rd.parts.cut in
@@ -337,7 +264,7 @@ read_has_no_fault link elements rd =
     (or_none (scheme_fault link) _ (none_scheme link rd.parts.rest scheme)
     (or_none (link_character_fault link) _ (none_characters link rd.parts.characters)
     (or_none (link_domain_fault link) (link_key_fault link)
-    (none_domain link (subst (λ d. is_domain d ≡ true) (sym domain) rd.parts.domain_is))
+    (none_domain link (subst (λ d. is_host d ≡ true) (sym domain) rd.parts.domain_is))
     (none_key link rd.parts.segments found))))
     (or_none (path_fault (path_pairs link)) _
     (ap path_fault pairs_are ∙ path_none rd.parts.segments rd.key rd.qualifying rd.parts.path_is path_allowed rd.linked.ordered)

@@ -1,8 +1,8 @@
 -- A reader of links finds in the link of elements these elements.
 use Rattle.std.proofs.Common.{◌≡◌, ℕ, ◌<◌, Bool, true, false, cond, List, [], ◌∷◌, ◌++◌, length}
-use Rattle.std.proofs.Common.{refl, arith, ap, sym, subst, ◌∙◌, append_assoc, inl, length-append, ◌/◌, ◌%◌}
-use Rattle.std.specs.Prelude.{All, ◌||◌, ◌==◌}
-use Rattle.std.specs.List.{slice_split, before_first, after_first, flat_map, list_all}
+use Rattle.std.proofs.Common.{drop, refl, arith, ap, sym, subst, ◌∙◌, append_assoc, length-append, ◌/◌, ◌%◌}
+use Rattle.std.specs.Prelude.{All, Some, ◌||◌, ◌==◌}
+use Rattle.std.specs.List.{slice_split, before_first, after_first, flat_map, list_all, AllPass}
 use Rattle.std.proofs.lemmas.Grind.{common_steps}
 use Rattle.std.proofs.lemmas.List.{append-nil}
 use Rattle.std.proofs.lemmas.List.Elements.{All-nil, All-cons, All-head, All-tail, All-append, All-weaker}
@@ -10,20 +10,21 @@ use Rattle.std.proofs.lemmas.List.Sums.{AllPass-from_list_all, list_all-from_All
 use Rattle.gs1_base.specs.Characters.{is_decimal_digit}
 use Rattle.gs1.specs.Elements.{Element}
 use Rattle.gs1_base.specs.Percent.{is_unreserved, capital_digit, byte_escape, percent_text}
-use Rattle.gs1_base.specs.Domains.{is_domain, is_domain_character}
-use Rattle.gs1_links.specs.Links.{path_text, query_text, https}
-use Rattle.gs1_links.specs.LinkReader.{is_slash, is_question, is_ampersand, is_link_character, query_parts}
+use Rattle.gs1_base.specs.Domains.{is_domain, is_domain_character, is_host, is_slash}
+use Rattle.gs1_links.specs.Links.{path_text, query_text}
+use Rattle.gs1_links.specs.LinkReader.{is_question, is_ampersand, is_link_character, query_parts, after_scheme}
 use Rattle.gs1_links.specs.LinkReader.{ReadsPath, ReadsQuery, HasParts}
 use Rattle.gs1.proofs.Faults.{both}
 use Rattle.gs1_base.proofs.Percents.{escaped_read}
-use Rattle.gs1_links.proofs.LinkCuts.{IsFree, AreFree, before_free, after_free, before_at, after_at, split_pieces}
+use Rattle.gs1_links.proofs.LinkCuts.{IsFree, AreFree, before_free, after_free, before_at, after_at, split_pieces, split_behind}
 use Rattle.gs1_links.proofs.LinkElements.{IsLinkable}
+use Rattle.gs1_links.proofs.LinkFronts.{split_first}
 
 -- ---- Characters
 
--- A character of a domain, of an identifier or of an escaped value.
+-- A character of an identifier or of an escaped value.
 abbrev is_plain : ℕ → Bool
-is_plain c = is_unreserved c || (c == 0x25) || (c == 0x3a)
+is_plain c = is_unreserved c || (c == 0x25)
 
 abbrev ArePlain : List ℕ → Type 0
 ArePlain xs = All (λ c. is_plain c ≡ true) xs
@@ -31,8 +32,11 @@ ArePlain xs = All (λ c. is_plain c ≡ true) xs
 digit_plain : (c : ℕ) → is_decimal_digit c ≡ true → is_plain c ≡ true
 digit_plain c e = grind (arith, common_steps)
 
-domain_plain : (c : ℕ) → is_domain_character c ≡ true → is_plain c ≡ true
-domain_plain c e = grind (arith, common_steps)
+domain_no_question : (c : ℕ) → is_domain_character c ≡ true → is_question c ≡ false
+domain_no_question c e = grind (arith, common_steps)
+
+domain_in_links : (c : ℕ) → is_domain_character c ≡ true → is_link_character c ≡ true
+domain_in_links c e = grind (arith, common_steps)
 
 unreserved_plain : (c : ℕ) → is_unreserved c ≡ true → is_plain c ≡ true
 unreserved_plain c e = grind (arith, common_steps)
@@ -78,13 +82,17 @@ plain_identifier e good =
 plain_value : (e : Element) → IsLinkable e → ArePlain (percent_text e.value)
 plain_value e good = plain_escaped e.value good.small
 
-plain_domain : (domain : List ℕ) → is_domain domain ≡ true → ArePlain domain
+-- What a domain is: its characters, and the host before the first slash.
+record IsDomain (domain : List ℕ) : Type 0 where
+  characters : All (λ c. is_domain_character c ≡ true) domain
+  host : is_host (before_first is_slash domain) ≡ true
+
+domain_is : (domain : List ℕ) → is_domain domain ≡ true → IsDomain domain
 unfolding is_domain
-plain_domain domain is =
+domain_is domain is =
     let first = both _ _ is in
     let second = both (list_all is_domain_character domain) _ first.0 in
-    All-weaker (λ c. is_domain_character c ≡ true) (λ c. is_plain c ≡ true) domain_plain domain
-    (AllPass-from_list_all is_domain_character domain second.0)
+    record { characters = AllPass-from_list_all is_domain_character domain second.0; host = second.1 }
 
 without : (p : ℕ → Bool) → ((c : ℕ) → is_plain c ≡ true → p c ≡ false) → (xs : List ℕ) → ArePlain xs → IsFree p xs
 without p fails xs plain = All-weaker (λ c. is_plain c ≡ true) (λ c. p c ≡ false) fails xs plain
@@ -210,36 +218,38 @@ cut_at front (e ∷ query) free good =
     }
 
 -- A reader cuts the link into its parts.
-pub has_parts : (domain : List ℕ) (path query : List Element) → is_domain domain ≡ true → All IsLinkable path →
-    All IsLinkable query →
-    HasParts (https ++ domain ++ flat_map path_text path ++ query_text 0x3f query) path query
-has_parts domain path query is good_path good_query =
-    let plain = plain_domain domain is in
+pub has_parts : (scheme domain : List ℕ) (path query : List Element) → AllPass is_link_character scheme →
+    after_scheme (scheme ++ domain ++ flat_map path_text path ++ query_text 0x3f query)
+    ≡ Some (domain ++ flat_map path_text path ++ query_text 0x3f query) → is_domain domain ≡ true → All IsLinkable path →
+    All IsLinkable query → HasParts (scheme ++ domain ++ flat_map path_text path ++ query_text 0x3f query) path query
+has_parts scheme domain path query plain_scheme behind is good_path good_query =
+    let good = domain_is domain is in
     let front : List ℕ = domain ++ flat_map path_text path in
     let no_question = All-append (λ c. is_question c ≡ false) domain (flat_map path_text path)
-    (without is_question plain_no_question domain plain)
+    (All-weaker (λ c. is_domain_character c ≡ true) (λ c. is_question c ≡ false) domain_no_question domain good.characters)
     (along_path (λ c. is_question c ≡ false) plain_no_question refl path good_path) in
     let cut = cut_at front query no_question good_query in
-    let split : slice_split is_slash front ≡ domain ∷ pieces_of path =
+    let split : slice_split is_slash front ≡ before_first is_slash domain ∷ (drop 1 (slice_split is_slash domain) ++ pieces_of path) =
     ap (λ xs. slice_split is_slash (domain ++ xs)) (path_pieces path)
-    ∙ split_pieces is_slash 0x2f refl domain (pieces_of path) (without is_slash plain_no_slash domain plain) (free_pieces path good_path) in
+    ∙ split_behind is_slash 0x2f refl domain (pieces_of path) (free_pieces path good_path)
+    ∙ ap (λ xs. xs ++ pieces_of path) (split_first domain) in
     let L : ℕ → Type 0 = λ c. is_link_character c ≡ true in
-    let all = All-append L (https ++ domain ++ flat_map path_text path) (query_text 0x3f query)
-    (All-append L (https ++ domain) (flat_map path_text path)
-    (All-append L https domain (AllPass-from_list_all is_link_character https refl)
-    (All-weaker (λ c. is_plain c ≡ true) L plain_in_links domain plain))
+    let all = All-append L (scheme ++ domain ++ flat_map path_text path) (query_text 0x3f query)
+    (All-append L (scheme ++ domain) (flat_map path_text path)
+    (All-append L scheme domain plain_scheme
+    (All-weaker (λ c. is_domain_character c ≡ true) L domain_in_links domain good.characters))
     (along_path L plain_in_links refl path good_path))
     (along_query L plain_in_links refl refl 0x3f refl query good_query) in
     record {
       rest = front ++ query_text 0x3f query;
-      domain = domain;
-      stem = [];
+      domain = before_first is_slash domain;
+      stem = drop 1 (slice_split is_slash domain);
       segments = pieces_of path;
-      scheme_is = inl refl;
+      scheme_is = behind;
       cut = ap (slice_split is_slash) cut.path_is ∙ split;
-      domain_is = is;
+      domain_is = good.host;
       path_is = reads_path path good_path;
       query_is = cut.query_is;
       characters = list_all-from_AllPass is_link_character
-          (https ++ domain ++ flat_map path_text path ++ query_text 0x3f query) all;
+          (scheme ++ domain ++ flat_map path_text path ++ query_text 0x3f query) all;
     }

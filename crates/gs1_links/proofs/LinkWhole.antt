@@ -2,8 +2,9 @@
 use Rattle.std.proofs.Common.{◌≡◌, ℕ, Bool, true, false, List, [], ◌∷◌, ◌++◌, length, ◌+◌, refl, ap, sym, subst}
 use Rattle.std.specs.Prelude.{All, Contains, Option, None, Some, if◌then◌else◌, nat_lt, is_some, ◌&&◌, ◌==◌, unwrap_or}
 use Rattle.std.specs.Option.{option_or, option_map, option_to_list}
-use Rattle.std.specs.List.{list_any, list_all}
+use Rattle.std.specs.List.{list_any, list_all, AllPass}
 use Rattle.std.proofs.lemmas.List.Elements.{All-cons, All-append, All-weaker, All-filter, All-contains_itself}
+use Rattle.std.proofs.lemmas.List.Sums.{AllPass-from_list_all}
 use Rattle.gs1.specs.Elements.{Element, written_elements}
 use Rattle.gs1.specs.Values.{element_error, first_error, text_error}
 use Rattle.gs1_base.specs.Domains.{is_domain}
@@ -12,9 +13,10 @@ use Rattle.gs1_links.specs.Links.{keys, number, is_attribute, domain_fault, text
 use Rattle.gs1_links.specs.Links.{qualifier_fault, second_key_fault, repeated_fault, later_fault, place_with}
 use Rattle.gs1_links.specs.Links.{first_rule_fault, elements_fault, qualifier_order, path_elements, query_elements}
 use Rattle.gs1_links.specs.Links.{linked, link_of, link_error, IsRefusedLink, together_fault, linking_fault}
+use Rattle.gs1_links.specs.Links.{link_behind, https, capital_https, capital_link_of}
 use Rattle.gs1.specs.Together.{is_among, first_among, first_conflict}
 use Rattle.gs1.specs.declared.together.TogetherError.{TogetherError}
-use Rattle.gs1_links.specs.LinkReader.{HasParts, ReadsLink}
+use Rattle.gs1_links.specs.LinkReader.{HasParts, ReadsLink, is_link_character, after_scheme}
 use Rattle.gs1.specs.declared.refusal.CheckError.{CheckError}
 use Rattle.gs1_links.specs.declared.link_error.LinkError.{LinkError}
 use Rattle.gs1_links.specs.declared.link_error.LinkError.TheVariants.{Elements, WrongDomain, TextTooLong}
@@ -29,10 +31,12 @@ use Rattle.gs1_links.proofs.LinkReads.{has_parts}
 use Rattle.gs1_links.proofs.LinkKept.{all_kept}
 use Rattle.gs1_links.proofs.LinkTogether.{together_same}
 
-elements_read : (domain : List ℕ) (elements : List Element) → is_domain domain ≡ true → first_error 0 elements ≡ None →
+elements_read : (scheme domain : List ℕ) (elements : List Element) → AllPass is_link_character scheme →
+    after_scheme (link_behind scheme domain elements) ≡ Some (link_behind [] domain elements) →
+    is_domain domain ≡ true → first_error 0 elements ≡ None →
     no_key_fault elements ≡ None → first_rule_fault (excluded_qualifiers elements) 0 elements ≡ None →
-    first_conflict elements 0 elements ≡ None → ReadsLink (link_of domain elements) (linked elements)
-elements_read domain elements is table some_one rules together =
+    first_conflict elements 0 elements ≡ None → ReadsLink (link_behind scheme domain elements) (linked elements)
+elements_read scheme domain elements plain behind is table some_one rules together =
     let good = all_linkable 0 elements table in
     let key = some_key elements some_one in
     let path_is : path_elements elements ≡ key.0 ∷ qualifying (qualifier_order elements) elements =
@@ -51,13 +55,13 @@ elements_read domain elements is table some_one rules together =
     (All-filter (is_attribute (key_number elements)) (Contains elements) elements self) in
     let kept : All (Contains all) elements =
     subst (λ l. All (Contains l) elements) (ap (λ path. path ++ query_elements elements) path_is) (all_kept elements rules) in
-    let P : List Element → Type 0 = λ path. HasParts (link_of domain elements) path (query_elements elements) in
+    let P : List Element → Type 0 = λ path. HasParts (link_behind scheme domain elements) path (query_elements elements) in
     record {
       key = key.0;
       qualifying = qualifying (qualifier_order elements) elements;
       query = query_elements elements;
       are = ap (λ path. path ++ query_elements elements) path_is;
-      parts = subst P path_is (has_parts domain (path_elements elements) (query_elements elements) is
+      parts = subst P path_is (has_parts scheme domain (path_elements elements) (query_elements elements) plain behind is
           (subst (All IsLinkable) (sym path_is) good_path) good_query);
       linked = record {
         key_is = among_of keys elements key.0 key.1;
@@ -95,17 +99,38 @@ stand_together : (elements : List Element) → together_fault elements ≡ None 
 unfolding together_fault
 stand_together elements none = none_mapped (λ (error : TogetherError). Together error) (first_conflict elements 0 elements) none
 
-pub link_read : (text domain link : List ℕ) → link_error text domain ≡ None → link ≡ link_of domain (written_elements text) →
-    ReadsLink link (linked (written_elements text))
-link_read text domain link none is =
+read_behind : (text scheme domain : List ℕ) → AllPass is_link_character scheme →
+    after_scheme (link_behind scheme domain (written_elements text)) ≡ Some (link_behind [] domain (written_elements text)) →
+    link_error text domain ≡ None → ReadsLink (link_behind scheme domain (written_elements text)) (linked (written_elements text))
+read_behind text scheme domain plain behind none =
     let first = neither (text_length_fault text) _ none in
     let second = neither (option_map (λ error. Elements error) (text_error text)) _ first.1 in
     let third = neither (domain_fault domain) (linking_fault (written_elements text)) second.1 in
     let fourth = neither (elements_fault (written_elements text)) (together_fault (written_elements text)) third.1 in
     let table = text_tests text (none_mapped (λ (error : CheckError). Elements error) (text_error text) second.0) in
     let rules = neither (no_key_fault (written_elements text)) _ fourth.0 in
-    rw is (elements_read domain (written_elements text) (right_domain domain third.0) table.1 rules.0 rules.1
-    (stand_together (written_elements text) fourth.1))
+    elements_read scheme domain (written_elements text) plain behind (right_domain domain third.0) table.1 rules.0 rules.1
+    (stand_together (written_elements text) fourth.1)
+
+https_behind : (rest : List ℕ) → after_scheme (https ++ rest) ≡ Some rest
+unfolding after_scheme
+https_behind rest = refl
+
+capital_behind : (rest : List ℕ) → after_scheme (capital_https ++ rest) ≡ Some rest
+unfolding after_scheme
+capital_behind rest = refl
+
+pub link_read : (text domain link : List ℕ) → link_error text domain ≡ None → link ≡ link_of domain (written_elements text) →
+    ReadsLink link (linked (written_elements text))
+link_read text domain link none is =
+    rw is (read_behind text https domain (AllPass-from_list_all is_link_character https refl)
+    (https_behind (link_behind [] domain (written_elements text))) none)
+
+pub capital_link_read : (text domain link : List ℕ) → link_error text domain ≡ None →
+    link ≡ capital_link_of domain (written_elements text) → ReadsLink link (linked (written_elements text))
+capital_link_read text domain link none is =
+    rw is (read_behind text capital_https domain (AllPass-from_list_all is_link_character capital_https refl)
+    (capital_behind (link_behind [] domain (written_elements text))) none)
 
 -- ---- Refusals
 

@@ -1,7 +1,7 @@
 -- No link is read as two lists of elements.
 use Rattle.std.proofs.Common.{◌≡◌, ℕ, ◌+◌, ◌-◌, ◌*◌, ◌<◌, ◌≤◌, Bool, true, false, cond, not, zero, suc, List, [], ◌∷◌, ◌++◌}
 use Rattle.std.proofs.Common.{length, map, drop, refl, arith, ap, sym, subst, ◌∙◌, inl, inr, length-append}
-use Rattle.std.specs.Prelude.{All, None, ◌⊎◌, ◌==◌, ◌||◌, slice_index}
+use Rattle.std.specs.Prelude.{All, None, Some, ◌⊎◌, ◌==◌, ◌||◌, slice_index}
 use Rattle.std.specs.List.{slice_split, before_first, after_first, list_all}
 use Rattle.std.proofs.lemmas.Grind.{common_steps}
 use Rattle.std.proofs.lemmas.Bool.{cases_lt}
@@ -12,8 +12,9 @@ use Rattle.gs1.specs.Elements.{Element}
 use Rattle.gs1.specs.Values.{element_error}
 use Rattle.gs1.specs.Together.{is_among}
 use Rattle.gs1_base.specs.Percent.{ReadsAs}
-use Rattle.gs1_links.specs.Links.{keys, number, order_of, https}
-use Rattle.gs1_links.specs.LinkReader.{http, is_slash, is_question, query_parts, ReadsPath, ReadsQuery, follows}
+use Rattle.gs1_links.specs.Links.{keys, number, order_of}
+use Rattle.gs1_base.specs.Domains.{is_slash}
+use Rattle.gs1_links.specs.LinkReader.{after_scheme, is_question, query_parts, ReadsPath, ReadsQuery, follows}
 use Rattle.gs1_links.specs.LinkReader.{AreLinked, LinksHaveOneReading}
 use Rattle.gs1.proofs.Faults.{both}
 use Rattle.gs1_base.proofs.Percents.{one_text}
@@ -22,24 +23,12 @@ use Rattle.gs1_links.proofs.LinkElements.{IsLinkable, linkable}
 
 -- ---- The scheme
 
-https_apart : (first second : List ℕ) → https ++ first ≡ http ++ second → ⊥
-https_apart first second e =
-    let fifth : (λ (n : ℕ). n) 0x73 ≡ 0x3a = ap (λ l. slice_index l 4) e in omega (arith, fifth)
-
 -- Nothing but the rest can stand behind a scheme.
-pub same_rest : (link first second : List ℕ) → (link ≡ https ++ first) ⊎ (link ≡ http ++ first) →
-    (link ≡ https ++ second) ⊎ (link ≡ http ++ second) → first ≡ second
-same_rest link first second a b =
-    elim a [
-      | inl x ↦ elim b [
-        | inl y ↦ ap (λ l. drop 8 l) (sym x ∙ y)
-        | inr y ↦ absurd (https_apart first second (sym x ∙ y))
-      ]
-      | inr x ↦ elim b [
-        | inl y ↦ absurd (https_apart second first (sym y ∙ x))
-        | inr y ↦ ap (λ l. drop 7 l) (sym x ∙ y)
-      ]
-    ]
+pub same_rest : (link first second : List ℕ) → after_scheme link ≡ Some first → after_scheme link ≡ Some second → first ≡ second
+same_rest link first second a b = same (sym a ∙ b)
+  where
+    same : Some first ≡ Some second → first ≡ second
+    same e = cc
 
 -- ---- The path
 

@@ -2,7 +2,7 @@
 -- URI Syntax, release 1.4, "Uncompressed GS1 Digital Link URI").
 use Rattle.std.specs.Prelude.{◌≡◌, ◌⊎◌, ℕ, ◌+◌, ◌%◌, Bool, true, false, ◌==◌, ◌&&◌, ◌||◌, not, nat_lt}
 use Rattle.std.specs.Prelude.{if◌then◌else◌}
-use Rattle.std.specs.Prelude.{List, [], ◌∷◌, ◌++◌, length, map, drop, position, slice_index}
+use Rattle.std.specs.Prelude.{List, [], ◌∷◌, ◌++◌, length, map, drop, position}
 use Rattle.std.specs.Prelude.{Option, None, Some, is_some, unwrap_or, zero, suc}
 use Rattle.std.specs.List.{slice_split, position_or_len, before_first, after_first, list_any}
 use Rattle.std.specs.Option.{option_or, option_map}
@@ -10,10 +10,10 @@ use Rattle.gs1.specs.Elements.{Element, is_identifier, written_elements}
 use Rattle.gs1.specs.Values.{number_of_identifier, element_error}
 use Rattle.gs1.specs.Together.{is_among, first_conflict}
 use Rattle.gs1_base.specs.Percent.{begins_with_byte, first_byte, after_byte}
-use Rattle.gs1_base.specs.Domains.{is_domain}
+use Rattle.gs1_base.specs.Domains.{is_host, is_slash}
 use Rattle.gs1_links.specs.Links.{keys, number, order_of, is_attribute, link_error, link_of}
 use Rattle.gs1_links.specs.Links.{linked}
-use Rattle.gs1_links.specs.LinkReader.{is_slash, is_question, is_ampersand, is_link_character}
+use Rattle.gs1_links.specs.LinkReader.{is_question, is_ampersand, is_link_character, after_scheme}
 use Rattle.gs1_links.specs.LinkReader.{query_parts, ReadsLink}
 use Rattle.gs1_links.specs.declared.link_error.LinkReadError.{LinkReadError}
 use Rattle.gs1_links.specs.declared.link_error.LinkReadError.TheVariants.{WrongScheme, WrongCharacter}
@@ -161,27 +161,6 @@ twins_fault place (part ∷ parts) =
 
 -- ---- The link
 
-abbrev pub begins_http : List ℕ → Bool
-begins_http link =
-    (slice_index link 0 == 0x68) && (slice_index link 1 == 0x74) && (slice_index link 2 == 0x74)
-    && (slice_index link 3 == 0x70)
-
--- Further on `s://`, or `://`.
-abbrev pub goes_on_secure : List ℕ → Bool
-goes_on_secure link =
-    (slice_index link 4 == 0x73) && (slice_index link 5 == 0x3a) && (slice_index link 6 == 0x2f)
-    && (slice_index link 7 == 0x2f)
-
-abbrev pub goes_on_plain : List ℕ → Bool
-goes_on_plain link =
-    (slice_index link 4 == 0x3a) && (slice_index link 5 == 0x2f) && (slice_index link 6 == 0x2f)
-
--- What stands behind `https://` or `http://`.
-unfoldable pub after_scheme : List ℕ → Option (List ℕ)
-after_scheme link =
-    if begins_http link && goes_on_secure link then Some (drop 8 link)
-    else (if begins_http link && goes_on_plain link then Some (drop 7 link) else None)
-
 unfoldable pub scheme_fault : List ℕ → Option LinkReadError
 scheme_fault link = if is_some (after_scheme link) then None else Some WrongScheme
 
@@ -201,7 +180,7 @@ query_of link = after_first is_question (rest_of link)
 
 unfoldable pub link_domain_fault : List ℕ → Option LinkReadError
 link_domain_fault link =
-    if is_domain (before_first is_slash (before_query link)) then None else Some WrongDomain
+    if is_host (before_first is_slash (before_query link)) then None else Some WrongDomain
 
 abbrev pub path_of : List ℕ → Option (List (List ℕ))
 path_of link = path_in (drop 1 (slice_split is_slash (before_query link)))

@@ -1,21 +1,40 @@
 -- What a reader of links finds in one (GS1 Digital Link Standard: URI Syntax, release 1.4,
 -- "Uncompressed GS1 Digital Link URI").
-use Rattle.std.specs.Prelude.{◌≡◌, ◌⊎◌, ℕ, Bool, true, false, ◌==◌, ◌||◌, if◌then◌else◌}
-use Rattle.std.specs.Prelude.{List, [], ◌∷◌, ◌++◌, length, map, None, All}
+use Rattle.std.specs.Prelude.{◌≡◌, ◌⊎◌, ℕ, ◌+◌, Bool, true, false, ◌==◌, ◌&&◌, ◌||◌, if◌then◌else◌}
+use Rattle.std.specs.Prelude.{List, [], ◌∷◌, ◌++◌, length, map, drop, slice_index, Option, None, Some, All}
 use Rattle.std.specs.List.{slice_split, before_first, after_first, list_all, list_any}
 use Rattle.gs1.specs.Elements.{Element}
 use Rattle.gs1.specs.Values.{element_error}
 use Rattle.gs1.specs.Together.{is_among, first_conflict}
 use Rattle.gs1_base.specs.Percent.{ReadsAs, stands_for_itself, is_percent}
-use Rattle.gs1_base.specs.Domains.{is_domain}
-use Rattle.gs1_links.specs.Links.{keys, number, order_of, is_attribute, https}
+use Rattle.gs1_base.specs.Domains.{is_host, is_slash}
+use Rattle.gs1_links.specs.Links.{keys, number, order_of, is_attribute}
 
--- `http://`
-abbrev pub http : List ℕ
-http = 0x68 ∷ 0x74 ∷ 0x74 ∷ 0x70 ∷ 0x3a ∷ 0x2f ∷ 0x2f ∷ []
+-- A small letter, or its capital.
+abbrev pub is_letter : ℕ → ℕ → Bool
+is_letter small c = (c == small) || (c + 0x20 == small)
 
-abbrev pub is_slash : ℕ → Bool
-is_slash c = c == 0x2f
+-- `http`, in letters of either case (RFC 3986, section 3.1).
+abbrev pub begins_http : List ℕ → Bool
+begins_http link =
+    is_letter 0x68 (slice_index link 0) && is_letter 0x74 (slice_index link 1)
+    && is_letter 0x74 (slice_index link 2) && is_letter 0x70 (slice_index link 3)
+
+-- Further on `s://`, or `://`.
+abbrev pub goes_on_secure : List ℕ → Bool
+goes_on_secure link =
+    is_letter 0x73 (slice_index link 4) && (slice_index link 5 == 0x3a)
+    && (slice_index link 6 == 0x2f) && (slice_index link 7 == 0x2f)
+
+abbrev pub goes_on_plain : List ℕ → Bool
+goes_on_plain link =
+    (slice_index link 4 == 0x3a) && (slice_index link 5 == 0x2f) && (slice_index link 6 == 0x2f)
+
+-- What stands behind `https://` or `http://`.
+unfoldable pub after_scheme : List ℕ → Option (List ℕ)
+after_scheme link =
+    if begins_http link && goes_on_secure link then Some (drop 8 link)
+    else (if begins_http link && goes_on_plain link then Some (drop 7 link) else None)
 
 abbrev pub is_question : ℕ → Bool
 is_question c = c == 0x3f
@@ -57,16 +76,16 @@ abbrev pub has_twins : List Element → Bool
 has_twins [] = false
 has_twins (e ∷ elements) = list_any (λ other. number other == number e) elements || has_twins elements
 
--- A link has these parts: a scheme, a domain, any segments, the elements of the path and those of
+-- A link has these parts: a scheme, a host, any segments, the elements of the path and those of
 -- the query. It has no fragment.
 pub record HasParts (link : List ℕ) (path query : List Element) : Type 0 where
   pub rest : List ℕ
   pub domain : List ℕ
   pub stem : List (List ℕ)
   pub segments : List (List ℕ)
-  pub scheme_is : (link ≡ https ++ rest) ⊎ (link ≡ http ++ rest)
+  pub scheme_is : after_scheme link ≡ Some rest
   pub cut : slice_split is_slash (before_first is_question rest) ≡ domain ∷ stem ++ segments
-  pub domain_is : is_domain domain ≡ true
+  pub domain_is : is_host domain ≡ true
   pub path_is : ReadsPath segments path
   pub query_is : ReadsQuery (query_parts (after_first is_question rest)) query
   pub characters : list_all is_link_character link ≡ true

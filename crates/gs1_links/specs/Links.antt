@@ -109,6 +109,10 @@ linked elements = path_elements elements ++ query_elements elements
 abbrev pub https : List ℕ
 https = 0x68 ∷ 0x74 ∷ 0x74 ∷ 0x70 ∷ 0x73 ∷ 0x3a ∷ 0x2f ∷ 0x2f ∷ []
 
+-- `HTTPS://`
+abbrev pub capital_https : List ℕ
+capital_https = 0x48 ∷ 0x54 ∷ 0x54 ∷ 0x50 ∷ 0x53 ∷ 0x3a ∷ 0x2f ∷ 0x2f ∷ []
+
 abbrev pub path_text : Element → List ℕ
 path_text e = 0x2f ∷ e.identifier ++ 0x2f ∷ percent_text e.value
 
@@ -117,12 +121,21 @@ query_text separator [] = []
 query_text separator (e ∷ elements) =
     separator ∷ e.identifier ++ 0x3d ∷ percent_text e.value ++ query_text 0x26 elements
 
+-- The link of elements behind a scheme.
+abbrev pub link_behind : List ℕ → List ℕ → List Element → List ℕ
+link_behind scheme domain elements =
+    scheme ++ domain ++ flat_map path_text (path_elements elements)
+    ++ query_text 0x3f (query_elements elements)
+
 -- The link of elements: `https://DOMAIN/KEY/VALUE/QUALIFIER/VALUE?ATTRIBUTE=VALUE&ATTRIBUTE=VALUE`
 -- ("Uncompressed GS1 Digital Link URI").
 abbrev pub link_of : List ℕ → List Element → List ℕ
-link_of domain elements =
-    https ++ domain ++ flat_map path_text (path_elements elements)
-    ++ query_text 0x3f (query_elements elements)
+link_of domain elements = link_behind https domain elements
+
+-- The same behind `HTTPS://`: with a domain of no small letters, the Alphanumeric mode has the link
+-- up to the first small letter of a value, or the query.
+abbrev pub capital_link_of : List ℕ → List Element → List ℕ
+capital_link_of domain elements = link_behind capital_https domain elements
 
 -- ---- The faults
 

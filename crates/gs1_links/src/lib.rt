@@ -25,6 +25,6 @@ mod link_values;
 
 pub use gs1_base::domain::is_domain;
 pub use gs1_base::percent::{PercentError, percent_decoded, percent_escaped};
-pub use link::digital_link;
+pub use link::{capital_link, digital_link};
 pub use link_error::{LinkError, LinkReadError};
 pub use link_read::{LinkElement, elements_of_link};

@@ -9,6 +9,7 @@ ghost use Rattle.gs1.specs.Values.{text_error};
 ghost use Rattle.gs1_base.specs.Domains.{is_domain};
 ghost use Rattle.gs1_links.specs.Links.{domain_fault, text_length_fault, together_fault};
 ghost use Rattle.gs1_links.specs.Links.{link_error, IsRefusedLink, link_of, linked, path_text, query_text};
+ghost use Rattle.gs1_links.specs.Links.{link_behind, capital_link_of};
 ghost use Rattle.gs1_links.specs.Links.{path_elements, primary_key, element_with, is_attribute};
 ghost use Rattle.gs1_links.specs.LinkReader.{ReadsLink};
 
@@ -33,8 +34,8 @@ use std::alloc::{AllocError, Global};
 /// capital hexadecimal digits.
 ///
 /// The domain is a host name of letters, digits, `-` and `.`, as `is_domain` says, with a colon and
-/// the digits of a port after it or without. A reader of links finds in the link these elements in
-/// this order, and no others.
+/// the digits of a port after it or without, and with a path or without: `example.com/shop`. A
+/// reader of links finds in the link these elements in this order, and no others.
 ///
 /// # Errors
 ///
@@ -60,7 +61,35 @@ pub fn digital_link(alloc: Global, text: &str, domain: &str) -> Result<Vec<u8>, 
     let text = text.as_bytes();
     let domain = domain.as_bytes();
     check_link(text, domain)?;
-    let link = link_of(alloc, text, domain)?;
+    let link = link_behind(alloc, b"https://", text, domain)?;
+    Ok(link)
+}
+
+/// Returns the link of `digital_link` with the scheme `HTTPS://`, which every reader takes for
+/// `https://`, as it takes a host name in capitals for one in small letters (RFC 3986, sections 3.1
+/// and 3.2.2). With a domain of no small letters, such as `ID.GS1.ORG`, the Alphanumeric mode has
+/// the link up to the first small letter of a value, or to the query, and its symbol is often
+/// smaller. The domain stands in the link as it is given: what follows its first slash is a path,
+/// in which small letters and capitals differ.
+///
+/// # Errors
+///
+/// As `digital_link`.
+pub fn capital_link(alloc: Global, text: &str, domain: &str) -> Result<Vec<u8>, LinkError>
+    ensures written { IfOk result (λ link. link.items
+        ≡ capital_link_of domain.now (written_elements text.now)) }
+    ensures read { IfOk result (λ link. ReadsLink link.items (linked (written_elements text.now))) }
+    // None of the elements is lost.
+    ensures none_lost { OnOk result (All (Contains (linked (written_elements text.now)))
+        (written_elements text.now)) }
+
+    ensures faultless { OnOk result (link_error text.now domain.now ≡ None) }
+    ensures refusal { IfErr result (IsRefusedLink text.now domain.now) }
+{
+    let text = text.as_bytes();
+    let domain = domain.as_bytes();
+    check_link(text, domain)?;
+    let link = link_behind(alloc, b"HTTPS://", text, domain)?;
     Ok(link)
 }
 
@@ -119,12 +148,18 @@ fn check_together(text: &[u8]) -> Result<(), LinkError>
     }
 }
 
-/// Returns the link of the elements of a text.
-fn link_of(alloc: Global, text: &[u8], domain: &[u8]) -> Result<Vec<u8>, AllocError>
-    ensures { IfOk result (λ link. link.items ≡ link_of domain.now (written_elements text.now)) }
+/// Returns the link of the elements of a text after a scheme.
+fn link_behind(
+    alloc: Global,
+    scheme: &[u8],
+    text: &[u8],
+    domain: &[u8],
+) -> Result<Vec<u8>, AllocError>
+    ensures { IfOk result (λ link. link.items
+        ≡ link_behind scheme.now domain.now (written_elements text.now)) }
 {
     let mut link = Vec::new(alloc);
-    link.extend_from_slice(b"https://")?;
+    link.extend_from_slice(scheme)?;
     link.extend_from_slice(domain)?;
     push_path(&mut link, text)?;
     push_query(&mut link, key_number(text), behind(text, 0))?;

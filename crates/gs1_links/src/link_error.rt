@@ -15,7 +15,7 @@ pub enum LinkError {
     /// The text has no elements that the table of identifiers allows.
     #[error("{0}")]
     Elements(CheckError),
-    /// The domain is no host name with or without a port.
+    /// The domain is no host name with or without a port and a path.
     #[error("the domain is no host name with or without a port")]
     WrongDomain,
     /// No element is a primary key.

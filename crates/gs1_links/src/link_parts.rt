@@ -5,8 +5,9 @@ ghost use Rattle.std.specs.Prelude.{if◌then◌else◌};
 ghost use Rattle.std.specs.List.{slice_split};
 ghost use Rattle.std.specs.Option.{option_map, option_map_or};
 ghost use Rattle.std.specs.Result.{result_err};
-ghost use Rattle.gs1_links.specs.LinkReader.{is_slash, is_link_character};
-ghost use Rattle.gs1_links.specs.LinkFaults.{cut_parts, is_key_text, path_in, pairs, after_scheme};
+ghost use Rattle.gs1_base.specs.Domains.{is_slash};
+ghost use Rattle.gs1_links.specs.LinkReader.{is_link_character, is_letter, after_scheme};
+ghost use Rattle.gs1_links.specs.LinkFaults.{cut_parts, is_key_text, path_in, pairs};
 ghost use Rattle.gs1_links.specs.LinkFaults.{link_character_fault, front_fault, path_of, query_of};
 
 use crate::link_error::LinkReadError;
@@ -14,7 +15,7 @@ use crate::link_rules::is_key;
 use gs1::check::is_identifier;
 use gs1::values::number_of;
 use gs1_base::cuts::{behind, byte, first_of};
-use gs1_base::domain::is_domain;
+use gs1_base::domain::is_host;
 use gs1_base::percent::stands_for_itself;
 
 /// A text up to a separator, and what stands after the separator, if there is one.
@@ -118,16 +119,23 @@ fn path_in<'a>(path: Option<&'a [u8]>) -> Option<&'a [u8]>
     found
 }
 
-/// Returns what stands after the scheme.
-#[tactic(auto, unfolding(crate::specs::LinkFaults::after_scheme))]
+/// Returns whether a byte is a small letter or its capital.
+fn is_letter(small: u8, byte: u8) -> bool
+    ensures { result ≡ is_letter small byte }
+{
+    byte == small || usize::from(byte) + 0x20 == usize::from(small)
+}
+
+/// Returns what stands after the scheme, whose letters may be capital.
+#[tactic(auto, unfolding(crate::specs::LinkReader::after_scheme))]
 fn after_scheme(link: &[u8]) -> Option<&[u8]>
     ensures { option_map (λ t. t.now) result ≡ after_scheme link.now }
 {
-    let http = byte(link, 0) == b'h'
-        && byte(link, 1) == b't'
-        && byte(link, 2) == b't'
-        && byte(link, 3) == b'p';
-    let secure = byte(link, 4) == b's'
+    let http = is_letter(b'h', byte(link, 0))
+        && is_letter(b't', byte(link, 1))
+        && is_letter(b't', byte(link, 2))
+        && is_letter(b'p', byte(link, 3));
+    let secure = is_letter(b's', byte(link, 4))
         && byte(link, 5) == b':'
         && byte(link, 6) == b'/'
         && byte(link, 7) == b'/';
@@ -187,7 +195,7 @@ pub(crate) fn cut_link<'a>(link: &'a [u8]) -> Result<LinkParts<'a>, LinkReadErro
     check_characters(link)?;
     let end = first_of(rest, b'?');
     let front = cut_at(&rest[..end], b'/');
-    if !is_domain(front.front) {
+    if !is_host(front.front) {
         return Err(LinkReadError::WrongDomain);
     }
     let Some(path) = path_in(front.rest) else {

@@ -3,7 +3,7 @@ use gs1::{CheckError, Reason, check_element_values, checked_element_string};
 
 /// Texts, and their element strings: examples of the GS1 General Specifications and values that
 /// zint 2.11.1 takes.
-static STRINGS: [(&str, &[u8]); 18] = [
+static STRINGS: [(&str, &[u8]); 20] = [
     (
         "(01)09506000134352(17)261200(10)ABC123",
         b"01095060001343521726120010ABC123",
@@ -37,6 +37,8 @@ static STRINGS: [(&str, &[u8]); 18] = [
     ("(717)ABC(21)7", b"717ABC\x1d217"),
     ("(8030)Abc_-09Abc9==(21)7", b"8030Abc_-09Abc9==\x1d217"),
     ("(3910)9241", b"39109241"),
+    ("(8010)0614141#A(8011)1", b"80100614141#A\x1d80111"),
+    ("(7041)1AB", b"70411AB"),
 ];
 
 #[test]
@@ -51,7 +53,7 @@ fn writes_allowed_values(rt: HostRuntime) {
 
 /// Values with a fault: the text, the number of the element, the identifier, the place and the
 /// reason. What is expected of a check digit or a pair is what zint 2.11.1 expects.
-static FAULTS: [(&str, usize, usize, usize, Reason); 59] = [
+static FAULTS: [(&str, usize, usize, usize, Reason); 62] = [
     ("(10)123456789012345678901", 0, 10, 20, Reason::TooLong),
     (
         "(10)ABCDEFGHIJABCDEFGHIJABCDEFGHIJ",
@@ -143,6 +145,23 @@ static FAULTS: [(&str, usize, usize, usize, Reason); 59] = [
         8030,
         1,
         Reason::WrongCharacter { byte: b'=' },
+    ),
+    // A number sign is of set 39 alone.
+    ("(10)A#B", 0, 10, 1, Reason::WrongCharacter { byte: b'#' }),
+    // Codes of packages are digits and capital letters.
+    (
+        "(7041)Pa",
+        0,
+        7041,
+        1,
+        Reason::WrongCharacter { byte: b'a' },
+    ),
+    (
+        "(7041)1-",
+        0,
+        7041,
+        1,
+        Reason::WrongCharacter { byte: b'-' },
     ),
     ("(8004)1ABCD", 0, 8004, 1, Reason::NoCompanyPrefix),
     ("(8010)123A", 0, 8010, 3, Reason::NoCompanyPrefix),

@@ -8,7 +8,7 @@ use std::alloc::Global;
 /// Texts, and their element strings as the GS1 General Specifications and zint 2.11.1 have them:
 /// trade items with a date and a batch, a logistic unit, weights and prices, locations, a coupon
 /// address with brackets that do not open, and values of all kinds of characters.
-static STRINGS: [(&str, &[u8]); 12] = [
+static STRINGS: [(&str, &[u8]); 14] = [
     ("(01)09506000134352", b"0109506000134352"),
     (
         "(01)09506000134352(17)260930(10)ABC123",
@@ -33,6 +33,8 @@ static STRINGS: [(&str, &[u8]); 12] = [
     ("(710)1(7003)2601011200", b"7101\x1d70032601011200"),
     ("(20)12(21)a%z_!\"", b"201221a%z_!\""),
     ("(99)&'*+,-./:;<=>?(98)Z", b"99&'*+,-./:;<=>?\x1d98Z"),
+    ("(8010)0614141#A(8011)1", b"80100614141#A\x1d80111"),
+    ("(21)A#B", b"21A#B"),
 ];
 
 #[test]
@@ -84,11 +86,11 @@ static FAULTS: [(&str, Gs1Error); 22] = [
         },
     ),
     (
-        "(21)A#B",
+        "(21)A$B",
         Gs1Error::InvalidCharacter {
             element: 0,
             position: 1,
-            byte: 0x23,
+            byte: 0x24,
         },
     ),
     ("(3103)0001", Gs1Error::WrongLength { element: 0 }),
@@ -241,11 +243,11 @@ static STRING_FAULTS: [(&[u8], Gs1Error); 28] = [
         Gs1Error::WrongCheckDigit { element: 0 },
     ),
     (
-        b"10A#\x1d0109506000134355",
+        b"10A$\x1d0109506000134355",
         Gs1Error::InvalidCharacter {
             element: 0,
             position: 1,
-            byte: 0x23,
+            byte: 0x24,
         },
     ),
 ];

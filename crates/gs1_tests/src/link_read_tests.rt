@@ -1,6 +1,6 @@
 //! Elements of links.
 use gs1::{CheckError, Reason, TogetherError};
-use gs1_links::{LinkElement, LinkReadError, digital_link, elements_of_link};
+use gs1_links::{LinkElement, LinkReadError, capital_link, digital_link, elements_of_link};
 use std::alloc::Global;
 
 /// Appends an element as `(01)..`.
@@ -22,7 +22,7 @@ fn read(alloc: Global, link: &[u8]) -> Option<Vec<u8>> {
 }
 
 /// Links and their elements. The first are examples of the standard, as remembered.
-static LINKS: [(&str, &str); 15] = [
+static LINKS: [(&str, &str); 17] = [
     ("https://id.gs1.org/01/09506000134352", "(01)09506000134352"),
     (
         "https://id.gs1.org/01/09506000134352/10/ABC123?17=201231",
@@ -76,6 +76,12 @@ static LINKS: [(&str, &str); 15] = [
     // The last key counts, and stems may look like elements.
     ("https://x/10/A/01/09506000134352?", "(01)09506000134352"),
     ("https://x/01/01/09506000134352", "(01)09506000134352"),
+    // Letters of schemes and hosts may be capital.
+    (
+        "HTTPS://ID.GS1.ORG/01/09506000134352/10/ABC?17=261231",
+        "(01)09506000134352(10)ABC(17)261231",
+    ),
+    ("hTtP://x/01/09506000134352", "(01)09506000134352"),
 ];
 
 #[test]
@@ -116,15 +122,21 @@ fn reads_back_what_is_written(rt: HostRuntime) {
         let found = read(rt.alloc(), link.as_slice());
         let found = found.expect(&rt, "no elements");
         assert_eq!(rt; found.as_slice(), text.as_bytes());
+        let link = capital_link(rt.alloc(), text, "ID.GS1.ORG/01/Shop").ok();
+        let link = link.expect(&rt, "no link in capitals");
+        let found = read(rt.alloc(), link.as_slice());
+        let found = found.expect(&rt, "no elements of capitals");
+        assert_eq!(rt; found.as_slice(), text.as_bytes());
     }
 }
 
 /// Links with a fault, before the elements and in their places.
-static FAULTS: [(&str, LinkReadError); 20] = [
+static FAULTS: [(&str, LinkReadError); 21] = [
     ("", LinkReadError::WrongScheme),
     ("ftp://x/01/09506000134352", LinkReadError::WrongScheme),
     ("https:/x/01/09506000134352", LinkReadError::WrongScheme),
-    ("HTTPS://x/01/09506000134352", LinkReadError::WrongScheme),
+    ("HTTQS://x/01/09506000134352", LinkReadError::WrongScheme),
+    ("Hxtp://x/01/09506000134352", LinkReadError::WrongScheme),
     (
         "https://x/01/09506000134352#a",
         LinkReadError::WrongCharacter { place: 27 },

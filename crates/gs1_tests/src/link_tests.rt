@@ -1,10 +1,12 @@
 //! Links of elements.
 use gs1::{CheckError, Reason, TogetherError};
-use gs1_links::{LinkError, PercentError, digital_link, percent_decoded, percent_escaped};
+use gs1_links::{
+    LinkError, PercentError, capital_link, digital_link, percent_decoded, percent_escaped,
+};
 use std::alloc::Global;
 
 /// Texts, domains and links. The first two are examples of the standard, as remembered.
-static LINKS: [(&str, &str, &str); 21] = [
+static LINKS: [(&str, &str, &str); 24] = [
     (
         "(01)09506000134352",
         "id.gs1.org",
@@ -82,6 +84,11 @@ static LINKS: [(&str, &str, &str); 21] = [
         "https://x/8010/9506000A1/8011/12",
     ),
     (
+        "(8010)9506000#A(8011)12",
+        "x",
+        "https://x/8010/9506000%23A/8011/12",
+    ),
+    (
         "(8017)950600013435200008(8019)7",
         "x",
         "https://x/8017/950600013435200008/8019/7",
@@ -111,6 +118,17 @@ static LINKS: [(&str, &str, &str); 21] = [
         "x",
         "https://x/401/9506000X?91=a%2Fb",
     ),
+    // A path at which links begin, also one that looks like elements.
+    (
+        "(01)09506000134352(10)ABC",
+        "example.com/shop",
+        "https://example.com/shop/01/09506000134352/10/ABC",
+    ),
+    (
+        "(00)106141412345678908",
+        "a.example:8080/s~_-.1/01/.x:y/..z",
+        "https://a.example:8080/s~_-.1/01/.x:y/..z/00/106141412345678908",
+    ),
 ];
 
 #[test]
@@ -122,8 +140,34 @@ fn writes_links(rt: HostRuntime) {
     }
 }
 
+/// Texts, domains and links in capitals.
+static CAPITAL_LINKS: [(&str, &str, &str); 2] = [
+    (
+        "(17)261231(01)09506000134352(10)ABc/",
+        "ID.GS1.ORG",
+        "HTTPS://ID.GS1.ORG/01/09506000134352/10/ABc%2F?17=261231",
+    ),
+    (
+        "(00)106141412345678908",
+        "A.EXAMPLE:80/Shop",
+        "HTTPS://A.EXAMPLE:80/Shop/00/106141412345678908",
+    ),
+];
+
+#[test]
+fn writes_links_in_capitals(rt: HostRuntime) {
+    for (text, domain, link) in CAPITAL_LINKS {
+        let written = capital_link(rt.alloc(), text, domain).ok();
+        let written = written.expect(&rt, "no link");
+        assert_eq!(rt; written.as_slice(), link.as_bytes());
+    }
+    for (text, domain, fault) in FAULTS {
+        assert_eq!(rt; capital_link(rt.alloc(), text, domain).err(), Some(fault));
+    }
+}
+
 /// Texts and domains with a fault.
-static FAULTS: [(&str, &str, LinkError); 29] = [
+static FAULTS: [(&str, &str, LinkError); 40] = [
     ("", "", LinkError::Elements(CheckError::NoElements)),
     (
         "(01)09506000134351",
@@ -136,7 +180,18 @@ static FAULTS: [(&str, &str, LinkError); 29] = [
         }),
     ),
     ("(10)A", "", LinkError::WrongDomain),
-    ("(10)A", "a/b", LinkError::WrongDomain),
+    ("(10)A", "a/b", LinkError::NoKey),
+    ("(10)A", "/b", LinkError::WrongDomain),
+    ("(10)A", "a/", LinkError::WrongDomain),
+    ("(10)A", "a//b", LinkError::WrongDomain),
+    ("(10)A", "a/b/", LinkError::WrongDomain),
+    ("(10)A", "a/./b", LinkError::WrongDomain),
+    ("(10)A", "a/..", LinkError::WrongDomain),
+    ("(10)A", "a/b?c", LinkError::WrongDomain),
+    ("(10)A", "a/%41", LinkError::WrongDomain),
+    ("(10)A", "a/\u{e9}", LinkError::WrongDomain),
+    ("(10)A", "a:0/b", LinkError::WrongDomain),
+    ("(10)A", "a_b/c", LinkError::WrongDomain),
     ("(10)A", ":80", LinkError::WrongDomain),
     ("(10)A", "a:", LinkError::WrongDomain),
     ("(10)A", "a:80:80", LinkError::WrongDomain),

@@ -1,7 +1,9 @@
 //! Tests of `programs`: devices that fail, and what is said about it.
 use programs::{
-    Fault, FromReader, FromWriter, Sink, Source, read_all, reason_text, report_device, write_all,
+    Fault, FromReader, FromWriter, Gathered, Sink, Source, read_all, reason_text, report_device,
+    write_all, write_line,
 };
+use std::alloc::AllocError;
 use std::io;
 use std::io::{ErrorKind, Read, Write};
 
@@ -102,4 +104,52 @@ fn reports_a_device(rt: HostRuntime) {
     let lines = "drawer: cannot read a.txt: no such file or directory\n\
         drawer: cannot write c.txt: input or output error\n";
     assert!(rt; said.as_slice() == lines.as_bytes());
+}
+
+/// A writer that counts the writes and the bytes, of which it takes at most 5000 at a time.
+#[derive(Drop)]
+struct Counted {
+    writes: usize,
+    bytes: usize,
+}
+
+impl Write for Counted {
+    fn write(&mut self, buf: &[u8]) -> io::Result<usize> {
+        let taken = buf.len().min(5000);
+        self.writes = self.writes.saturating_add(1);
+        self.bytes = self.bytes.saturating_add(taken);
+        Ok(taken)
+    }
+
+    fn flush(&mut self) -> io::Result<()> {
+        Ok(())
+    }
+}
+
+/// How many writes and bytes a line of three pieces of this text takes.
+fn written_line(text: &str) -> (usize, usize) {
+    let mut counted = Counted {
+        writes: 0,
+        bytes: 0,
+    };
+    let mut errors = Gathered::new(FromWriter::new(&mut counted));
+    let _ = write_line(&mut errors, "qrlabel", &[text, text, text]);
+    (counted.writes, counted.bytes)
+}
+
+#[test]
+fn a_line_is_one_write(rt: HostRuntime) -> Result<(), AllocError> {
+    assert_eq!(rt; written_line("a"), (1, 13));
+    let mut text = String::new(rt.alloc());
+    for _ in 0..1362 {
+        text.push('a')?;
+    }
+    assert_eq!(rt; written_line(&text), (1, 4096));
+    text.push('a')?;
+    assert_eq!(rt; written_line(&text), (2, 4099));
+    for _ in 0..6 {
+        text.push_str("more than is gathered at once")?;
+    }
+    assert_eq!(rt; written_line(&text).1, 4621);
+    Ok(())
 }

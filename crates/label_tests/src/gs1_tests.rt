@@ -1,10 +1,11 @@
 //! Tests of labels of GS1 elements and of their links.
 use crate::served::{draw_alike, ran, reports};
-use std::alloc::Global;
+use std::alloc::{AllocError, Global};
 
 /// Inputs that the table of identifiers does not allow, and the line that says why. The check digit
-/// of 0950600013435 is 2, that of 950600013435 also, and 13 is no month.
-static ERRORS: [(&str, &str); 15] = [
+/// of 0950600013435 is 2, that of 950600013435 also, 13 is no month, and the pair of the model number
+/// 1987654Ad4X4bL5ttr2310c is 2K (GS1 General Specifications, "Check character pair").
+static ERRORS: [(&str, &str); 16] = [
     (
         "hello",
         "element 1: the identifier is cut short, or not two to four digits",
@@ -23,6 +24,10 @@ static ERRORS: [(&str, &str); 15] = [
     (
         "(253)9506000134355",
         "(253), element 1, character 13: wrong check digit; the check digit would be 2",
+    ),
+    (
+        "(8013)1987654Ad4X4bL5ttr2310c2L",
+        "(8013), element 1, character 24: wrong pair of check characters; the pair would be 2K",
     ),
     (
         "(10)A(01)1",
@@ -62,6 +67,64 @@ fn refuses_by_the_table(rt: HostRuntime) {
             reports(rt.alloc(), &["-c", "gs1"], text.as_bytes(), line),
             "{line}"
         );
+    }
+}
+
+/// Elements that may not stand together (GS1 General Specifications, "Mandatory associations" and
+/// "Invalid pairs of GTINs"), in both forms, and the line that says why.
+static APART: [(&[u8], &str); 6] = [
+    (
+        b"(10)ABC",
+        "(10), element 1: an element that has to stand beside it is missing",
+    ),
+    (
+        b"10ABC",
+        "(10), element 1: an element that has to stand beside it is missing",
+    ),
+    (
+        b"(02)09506000134352",
+        "(02), element 1: an element that has to stand beside it is missing",
+    ),
+    (
+        b"]Q3010950600013435210A\x1D10B",
+        "(10), element 2: element 3 may not stand beside it",
+    ),
+    (
+        b"(01)09506000134352(02)09506000134352(37)2",
+        "(01), element 1: element 2 may not stand beside it",
+    ),
+    (
+        b"(01)09506000134352(01)04012345678901",
+        "(01), element 1: element 2 may not stand beside it",
+    ),
+];
+
+#[test]
+fn refuses_what_may_not_stand_together(rt: HostRuntime) {
+    for (elements, line) in APART.iter() {
+        assert!(rt;
+            reports(rt.alloc(), &["-c", "gs1"], elements, line),
+            "{line}"
+        );
+        assert!(rt; ran(rt.alloc(), &UNCHECKED, elements).status == 0, "{line}");
+    }
+}
+
+/// What scanners give is drawn without their marks; an opening bracket may stand in a value.
+#[test]
+fn draws_what_a_scanner_gives(rt: HostRuntime) {
+    let alloc = rt.alloc();
+    let written = b"(01)09506000134352(10)ABC";
+    for words in [&CHECKED, &UNCHECKED] {
+        for given in [
+            b"]Q3010950600013435210ABC".as_slice(),
+            b"010950600013435210ABC\x1D".as_slice(),
+            b"]Q3010950600013435210ABC\x1D\r\n".as_slice(),
+        ] {
+            assert!(rt; draw_alike(alloc, words, given, words, written));
+        }
+        assert!(rt; ran(alloc, words, b"010950600013435210A(02)B").status == 0);
+        assert!(rt; ran(alloc, words, b"]Q3").status == 1);
     }
 }
 
@@ -129,8 +192,8 @@ as elements: version 1\n"
 static OTHER_WAYS: [(&[u8], &[u8]); 4] = [
     (b"(01)09506000134352", b" modules\nas a link: version 3\n"),
     (b"0109506000134352", b" modules\nas a link: version 3\n"),
-    (b"(10)A", b" modules\nas a link: none\n"),
-    (b"10A", b" modules\nas a link: none\n"),
+    (b"(90)A", b" modules\nas a link: none\n"),
+    (b"90A", b" modules\nas a link: none\n"),
 ];
 
 #[test]
@@ -165,7 +228,7 @@ static REFUSED: [(&[u8], &str); 9] = [
     ),
     (
         b"(01)09506000134352(10)A(235)B",
-        "(10), element 2: no qualifier of the link's key, or not beside another one",
+        "(10), element 2: may not stand beside another qualifier of the link's key",
     ),
     (
         b"(01)09506000134352(17)261231(17)261231",
@@ -241,20 +304,27 @@ fn writes_elements_below_the_symbol(rt: HostRuntime) {
     );
 }
 
-/// A domain is a host name, with a port or without, and only links have one.
-static DOMAINS: [&[&str]; 4] = [
-    &["--domain", "a.org", "hello"],
-    &["-c", "link", "--domain", "a/b", "(01)09506000134352"],
-    &["-c", "link", "--domain=", "(01)09506000134352"],
-    &["-c", "link", "--domain", "a.org:", "(01)09506000134352"],
+/// A domain is a host name, or with a port or a path, and only links have one.
+static DOMAINS: [(&[&str], &str); 4] = [
+    (&["--domain", "a.org", "hello"], "'a.org'"),
+    (
+        &["-c", "link", "--domain", "a//b", "(01)09506000134352"],
+        "'a//b'",
+    ),
+    (&["-c", "link", "--domain=", "(01)09506000134352"], "''"),
+    (
+        &["-c", "link", "--domain", "a.org:", "(01)09506000134352"],
+        "'a.org:'",
+    ),
 ];
 
 #[test]
-fn names_wrong_domains(rt: HostRuntime) {
-    let line =
-        b"qrlabel: invalid --domain: a host name, with a port or without, and with -c link\n";
-    for words in DOMAINS.iter() {
+fn names_wrong_domains(rt: HostRuntime) -> Result<(), AllocError> {
+    let text = "a host name, or with a port or a path, and with -c link\ntry qrlabel --help";
+    for (words, value) in DOMAINS.iter() {
         let answer = ran(rt.alloc(), words, b"");
-        assert!(rt; answer.status == 2 && answer.said.starts_with(line));
+        let line = format!(in rt.alloc(); "invalid --domain {value}: {text}")?;
+        assert!(rt; answer.has_reported(2, &line));
     }
+    Ok(())
 }

@@ -139,7 +139,7 @@ fn trims_a_text(rt: HostRuntime) {
             b"hello\n"
         )
     );
-    assert!(rt; draw_alike(alloc, &ELEMENTS, b"(10)A\n", &ELEMENTS, b"(10)A"));
+    assert!(rt; draw_alike(alloc, &ELEMENTS, b"(90)A\n", &ELEMENTS, b"(90)A"));
 }
 
 /// A size in millimetres and a resolution give the scale, in whole dots: of 0.5 mm 6 at 300 dots an

@@ -72,7 +72,7 @@ pub fn ran(alloc: Global, words: &[&str], input: &[u8]) -> Served {
             &mut files,
             &mut errors,
         ),
-        Err(misuse) => misused(&mut errors, misuse),
+        Err(misuse) => misused(&mut errors, misuse, None),
     };
     Served {
         status,

@@ -1,5 +1,5 @@
 -- What the program's labels and commands stand for.
-use Rattle.std.specs.Prelude.{ℕ, List, Result, Ok, Err}
+use Rattle.std.specs.Prelude.{ℕ, Bool, true, false, ◌&&◌, not, List, Option, Result, Ok, Err}
 use denote.Ref.{Bor}
 use Rattle.std.specs.Option.{option_copied}
 use Rattle.picture_settings.specs.declared.settings.Settings.{Settings}
@@ -9,6 +9,8 @@ use Rattle.label_words.specs.declared.command.Label.{Label as Drawn}
 use Rattle.label_words.specs.declared.words.Misuse.{Misuse}
 use Rattle.label_words.specs.declared.command.Portion.{Portion as Shown}
 use Rattle.label_words.specs.declared.command.Portion.TheVariants.{Whole, Lines, Files, Split, Parts}
+use Rattle.label_words.specs.declared.command.{Details.Details, Details.TheVariants.Alone}
+use Rattle.label_words.specs.Choices.{is_pdf}
 use Rattle.label_words.specs.Commands.{Wishes, Label, Command}
 use Rattle.label_words.specs.Portions.{Portion, whole, lines, files, split, parts}
 use Rattle.label_words.specs.Commands.{asks_help, asks_version, asks_label}
@@ -24,6 +26,10 @@ outcome (Err misuse) = Err (wrong_of misuse)
 abbrev pub text_outcome : Result (Bor (List ℕ)) Misuse → Result (List ℕ) Wrong
 text_outcome (Ok text) = Ok text.now
 text_outcome (Err misuse) = Err (wrong_of misuse)
+
+abbrev pub title_outcome : Result (Option (Bor (List ℕ))) Misuse → Result (Option (List ℕ)) Wrong
+title_outcome (Ok title) = Ok (option_copied title)
+title_outcome (Err misuse) = Err (wrong_of misuse)
 
 -- The settings of a picture.
 abbrev pub wishes_of : Settings → Wishes
@@ -81,6 +87,18 @@ label_of drawn = record {
   dpi = drawn.dpi;
   hri = drawn.hri;
 }
+
+-- Whether the labels of lines are the pages of one document.
+abbrev pub are_lines : Shown → Bool
+are_lines Lines = true
+are_lines _ = false
+
+abbrev pub draws_nothing : Details → Bool
+draws_nothing Alone = true
+draws_nothing _ = false
+
+abbrev pub is_document : Drawn → Bool
+is_document drawn = are_lines drawn.portion && (is_pdf drawn.format && not (draws_nothing drawn.details))
 
 abbrev pub label_outcome : Result Drawn Misuse → Result Label Wrong
 label_outcome (Ok drawn) = Ok (label_of drawn)

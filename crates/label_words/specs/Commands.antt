@@ -27,6 +27,8 @@ use Rattle.label_words.specs.Choices.{is_link, is_micro_content, is_drawn_in_dot
 use Rattle.gs1_base.specs.Domains.{is_domain}
 use Rattle.label_words.specs.Portions.{Portion, portion_asked, terminal_asked, details_asked}
 use Rattle.picture_settings.specs.Formats.{has_caption}
+use Rattle.picture_settings.specs.Xml.{is_xml_text}
+use Rattle.programs.specs.Quotes.{has_control}
 use Rattle.picture_settings.specs.OptionWords.{word_number, word_hundredths, word_position}
 use Rattle.label_words.specs.Words.{Values, value_of, file_of, is_given, Wrong, invalid}
 
@@ -73,8 +75,8 @@ abbrev pub content_asked : Values → Result ContentOf Wrong
 content_asked values =
     kind_asked values >>= (λ kind. if is_given values NoKanji then without_kanji kind else Ok kind)
 
--- The domain of a link, a host name with a port or without, or that of the resolver of GS1. Other
--- contents have none.
+-- The domain of a link, a host name, or with a port or a path, or that of the resolver of GS1.
+-- Other contents have none.
 abbrev pub domain_asked : ContentOf → Values → Result (List ℕ) Wrong
 domain_asked content values =
     elim (value_of values Domain) [
@@ -122,6 +124,13 @@ dark_asked = asked word_color Dark
 abbrev pub light_asked : Values → Result (Option Ground) Wrong
 light_asked = asked ground_word Light
 
+-- A title of one line: XML allows its characters, and none of them is a control character.
+abbrev pub title_in : List ℕ → Option (List ℕ)
+title_in word = if is_xml_text word && not (has_control word) then Some word else None
+
+abbrev pub title_asked : Values → Result (Option (List ℕ)) Wrong
+title_asked = asked title_in Title
+
 -- ---- The picture, the symbol and the label
 
 -- What is asked of a picture.
@@ -148,6 +157,7 @@ settings_asked values = do
   quiet ← number_asked Quiet values
   module_mm ← module_asked values
   dpi ← number_asked Dpi values
+  title ← title_asked values
   at ← place_asked values
   copies ← number_asked Copies values
   feed ← number_asked Feed values
@@ -159,7 +169,7 @@ settings_asked values = do
     module_mm = module_mm;
     dpi = dpi;
     inverted = is_given values Inverted;
-    title = value_of values Title;
+    title = title;
     caption = None;
     at = at;
     copies = copies;

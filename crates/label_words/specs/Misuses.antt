@@ -1,5 +1,6 @@
 -- What a program writes about words that are wrong.
-use Rattle.std.specs.Prelude.{ℕ, List, [], ◌∷◌, ◌++◌, codes, flat_map}
+use Rattle.std.specs.Prelude.{ℕ, List, [], ◌∷◌, ◌++◌, codes, flat_map, Option, None, Some, true, false}
+use Rattle.programs.specs.Quotes.{shown_word, word_line}
 use Rattle.label_words.specs.declared.words.Name.{Name}
 use Rattle.label_words.specs.declared.words.Name.TheVariants.{Text, Format, Content, Level, Strongest}
 use Rattle.label_words.specs.declared.words.Name.TheVariants.{MinVersion, MaxVersion, Scale, Quiet}
@@ -10,7 +11,7 @@ use Rattle.label_words.specs.declared.words.Name.TheVariants.{Copies, Compressed
 use Rattle.label_words.specs.declared.words.Name.TheVariants.{Verbose, Info, Dark, Light, AnyColors, Domain}
 use Rattle.label_words.specs.declared.words.Name.TheVariants.{Hri, NoKanji}
 use Rattle.label_words.specs.Words.{Wrong, unknown, no_value, second_text, invalid}
-use Rattle.label_words.specs.Words.{needs_stream, needs_file}
+use Rattle.label_words.specs.Words.{long_title, needs_stream, needs_file}
 
 -- The word of an option of a picture.
 abbrev pub picture_word : Name → List ℕ
@@ -87,7 +88,7 @@ abbrev pub values_text : Name → List ℕ
 values_text Format = codes "terminal, svg, png, pbm, eps, pdf, escpos or zpl"
 values_text Content = codes "auto, text, bytes, gs1, gs1-unchecked, link, micro or micro-bytes"
 values_text Level = codes "L, M, Q or H; for a Micro symbol L, M or Q"
-values_text Domain = codes "a host name, with a port or without, and with -c link"
+values_text Domain = codes "a host name, or with a port or a path, and with -c link"
 values_text Strongest = codes "not for a Micro symbol"
 values_text MinVersion = codes "1 to 40, not for a Micro symbol"
 values_text MaxVersion = codes "1 to 40, at least --min-version, not for a Micro symbol"
@@ -129,20 +130,38 @@ needs_stream_text =
     codes "--lines and --split need -f terminal, pbm, escpos or zpl, or --lines -f pdf, "
     ++ codes "or files as in -o label-%05d.png"
 
+abbrev pub long_title_text : List ℕ
+long_title_text =
+    codes "invalid --title: too long: for png and pdf it has at most 1000000 bytes, for eps at most 244 "
+    ++ codes "characters, of which one beyond ASCII counts 8 to 16"
+
 abbrev pub needs_file_text : List ℕ
 needs_file_text = codes "png, pbm, pdf and escpos are not for a terminal: give -o FILE, or -o -"
 
--- What is wrong with the words, in pieces.
-abbrev pub wrong_pieces : Wrong → List (List ℕ)
-wrong_pieces (unknown word) = codes "no option " ∷ word ∷ advice ∷ []
-wrong_pieces (no_value name) = codes "no value after " ∷ option_word name ∷ advice ∷ []
-wrong_pieces (second_text word) = codes "more than one text: " ∷ word ∷ advice ∷ []
-wrong_pieces (invalid name) =
-    codes "invalid " ∷ option_word name ∷ codes ": " ∷ values_text name ∷ advice ∷ []
-wrong_pieces needs_stream = needs_stream_text ∷ advice ∷ []
-wrong_pieces needs_file = needs_file_text ∷ advice ∷ []
+-- The line of some pieces: the name of the program, what is wrong, and where help is.
+abbrev pub misuse_line : List (List ℕ) → List ℕ
+misuse_line pieces = codes "qrlabel" ++ (codes ": " ++ (flat_map (λ piece. piece) pieces ++ 10 ∷ []))
 
--- What is written about it: the name of the program, what is wrong, and where help is.
-unfoldable pub wrong_line : Wrong → List ℕ
-wrong_line wrong =
-    codes "qrlabel" ++ (codes ": " ++ (flat_map (λ piece. piece) (wrong_pieces wrong) ++ 10 ∷ []))
+-- The same with a word, as it is shown, between the pieces.
+abbrev pub named_line : List (List ℕ) → List ℕ → List (List ℕ) → List ℕ
+named_line = word_line (codes "qrlabel")
+
+-- An option that has a value that it can't have, which is in quotes, if it is known.
+abbrev pub invalid_line : Option (List ℕ) → Name → List ℕ
+invalid_line None name =
+    misuse_line (codes "invalid " ∷ option_word name ∷ codes ": " ∷ values_text name ∷ advice ∷ [])
+invalid_line (Some value) name =
+    named_line (codes "invalid " ∷ option_word name ∷ codes " " ∷ []) (shown_word true value)
+    (codes ": " ∷ values_text name ∷ advice ∷ [])
+
+-- What is written about words that are wrong, of which an option may have a value.
+unfoldable pub wrong_line : Option (List ℕ) → Wrong → List ℕ
+wrong_line value (unknown word) =
+    named_line (codes "no option " ∷ []) (shown_word false word) (advice ∷ [])
+wrong_line value (no_value name) = misuse_line (codes "no value after " ∷ option_word name ∷ advice ∷ [])
+wrong_line value (second_text word) =
+    named_line (codes "more than one text: " ∷ []) (shown_word false word) (advice ∷ [])
+wrong_line value (invalid name) = invalid_line value name
+wrong_line value long_title = misuse_line (long_title_text ∷ advice ∷ [])
+wrong_line value needs_stream = misuse_line (needs_stream_text ∷ advice ∷ [])
+wrong_line value needs_file = misuse_line (needs_file_text ∷ advice ∷ [])

@@ -13,6 +13,10 @@ use Rattle.picture_settings.specs.declared.settings.Setting.TheVariants.{Dark as
 use Rattle.picture_settings.specs.declared.settings.Setting.TheVariants.{Light as LightOf}
 use Rattle.picture_settings.specs.declared.settings.Setting.TheVariants.{AnyColors as AnyColorsOf}
 use Rattle.picture_settings.specs.declared.settings.Setting.TheVariants.{Caption as CaptionOf}
+use Rattle.std.specs.Prelude.{if◌then◌else◌}
+use Rattle.picture_settings.specs.declared.format.Format.{Format}
+use Rattle.picture_settings.specs.Formats.{has_title}
+use Rattle.label_words.specs.Words.{Wrong, invalid, long_title}
 use Rattle.label_words.specs.declared.words.Name.{Name}
 use Rattle.label_words.specs.declared.words.Name.TheVariants.{Scale, Quiet, ModuleMm, Dpi, Inverted}
 use Rattle.label_words.specs.declared.words.Name.TheVariants.{Title, At, Copies, Compressed, Feed, Cut}
@@ -35,3 +39,9 @@ setting_option CutOf = Cut
 setting_option DarkOf = Dark
 setting_option LightOf = Light
 setting_option AnyColorsOf = AnyColors
+
+-- What is wrong with the words where a setting is not valid in a format: an option, or the length of
+-- a title, of which all else was tested before.
+abbrev pub setting_wrong : Format → Setting → Wrong
+setting_wrong format TitleOf = if has_title format then long_title else invalid Title
+setting_wrong format setting = invalid (setting_option setting)

@@ -5,12 +5,12 @@ use denote.Ref.{Bor}
 use Rattle.std.specs.Option.{option_copied}
 use Rattle.label_words.specs.declared.words.Misuse.{Misuse}
 use Rattle.label_words.specs.declared.words.Misuse.TheVariants.{Unknown, NoValue, SecondText, Invalid}
-use Rattle.label_words.specs.declared.words.Misuse.TheVariants.{NeedsStream, NeedsFile}
+use Rattle.label_words.specs.declared.words.Misuse.TheVariants.{LongTitle, NeedsStream, NeedsFile}
 use Rattle.label_words.specs.declared.words.Name.{Name}
 use Rattle.label_words.specs.declared.words.Reading.{Reading}
 use Rattle.label_words.specs.declared.words.Values.{Values as Kept}
 use Rattle.label_words.specs.Words.{Scan, Values, Wrong, unknown, no_value, second_text, invalid}
-use Rattle.label_words.specs.Words.{needs_stream, needs_file}
+use Rattle.label_words.specs.Words.{long_title, needs_stream, needs_file}
 
 -- The wrong words that a misuse stands for.
 abbrev pub wrong_of : Misuse → Wrong
@@ -18,6 +18,7 @@ wrong_of (Unknown word) = unknown word.now
 wrong_of (NoValue name) = no_value name
 wrong_of (SecondText word) = second_text word.now
 wrong_of (Invalid name) = invalid name
+wrong_of LongTitle = long_title
 wrong_of NeedsStream = needs_stream
 wrong_of NeedsFile = needs_file
 

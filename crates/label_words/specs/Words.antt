@@ -175,13 +175,14 @@ joined_value = started_by letters
 
 -- What is wrong with words: a word that names no option; an option with no value after it; a
 -- text where there is one; an option that has a value that it can't have, or does not go with
--- the others; a format in which the labels of lines can't follow each other; bytes that are no
--- text, on a terminal.
+-- the others; a title that is too long for the format; a format in which the labels of lines can't
+-- follow each other; bytes that are no text, on a terminal.
 pub data Wrong : Type 0 where
   unknown : List ℕ → Wrong
   no_value : Name → Wrong
   second_text : List ℕ → Wrong
   invalid : Name → Wrong
+  long_title : Wrong
   needs_stream : Wrong
   needs_file : Wrong
 
@@ -215,6 +216,11 @@ file_of values name =
 -- Whether an option is given.
 abbrev pub is_given : Values → Name → Bool
 is_given values name = is_some (value_of values name)
+
+-- The value of the option that is wrong, if it has one.
+abbrev pub value_said : Values → Wrong → Option (List ℕ)
+value_said values (invalid name) = if takes_value name then value_of values name else None
+value_said values _ = None
 
 -- A word is the text, if there is no text yet.
 abbrev pub read_as_text : Option Name → Values → List ℕ → Result Scan Wrong

@@ -276,8 +276,8 @@ fn is_trimmed(content: Content) -> bool
     }
 }
 
-/// Returns the domain of a link, which is a host name with a port or without, or the default. Other
-/// contents have none.
+/// Returns the domain of a link, which is a host name, or with a port or a path, or the default.
+/// Other contents have none.
 fn domain_of<'a>(values: &Values<'a>, content: Content) -> Result<&'a str, Misuse<'a>>
     ensures { text_outcome result ≡ domain_asked content (said values.now) }
 {

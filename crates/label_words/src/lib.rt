@@ -24,5 +24,5 @@ pub use command::{Command, Content, Details, Label, Portion, Turn, command_of, i
 pub use help::{help_text, version_text};
 pub use misuse::write_misuse;
 pub use names::{Numbering, write_numbered};
-pub use portion::can_be_split;
+pub use portion::{can_be_split, is_document};
 pub use words::{Misuse, Name, Values, read_words};

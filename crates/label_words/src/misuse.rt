@@ -1,11 +1,14 @@
 //! What is wrong with the words, as a line on standard error.
-ghost use Rattle.std.specs.Prelude.{◌≡◌, IsFalse};
+ghost use Rattle.std.specs.Prelude.{◌≡◌, [], ◌∷◌, false, IsFalse};
+ghost use Rattle.std.specs.Option.{option_copied};
 ghost use Rattle.programs.specs.Devices.{output, Writes};
+ghost use Rattle.programs.specs.Quotes.{shown_word};
 ghost use Rattle.label_words.specs.Misuses.{picture_word, option_word, values_text, wrong_line};
+ghost use Rattle.label_words.specs.Misuses.{named_line, invalid_line, advice};
 ghost use Rattle.label_words.specs.Values.{wrong_of};
 
 use crate::words::{Misuse, Name};
-use programs::{Fault, Sink, write_line};
+use programs::{Fault, Sink, Word, write_line, write_word_line};
 
 /// The second line.
 const ADVICE: &str = "\ntry qrlabel --help";
@@ -38,35 +41,73 @@ const DARK: &str =
 const LIGHT: &str =
     "as --dark, or transparent; in a contrast of 3 at least, unless --any-colors is given";
 
+/// What is wrong with a title that has a line of text without control characters.
+const LONG_TITLE: &str = "\
+invalid --title: too long: for png and pdf it has at most 1000000 bytes, for eps at most 244 \
+characters, of which one beyond ASCII counts 8 to 16";
+
 /// What bytes that are no text need on a terminal.
 const NEEDS_FILE: &str = "png, pbm, pdf and escpos are not for a terminal: give -o FILE, or -o -";
 
-/// Writes what is wrong with the words, and where help is. It fails with `Write` if the
-/// sink failed.
-pub fn write_misuse<E: Sink>(errors: &mut E, misuse: Misuse) -> Result<(), Fault>
+/// Writes what is wrong with the words, and where help is. `value` is the value of the option that
+/// is wrong, if it is known. It fails with `Write` if the sink failed.
+pub fn write_misuse<E: Sink>(
+    errors: &mut E,
+    misuse: Misuse,
+    value: Option<&str>,
+) -> Result<(), Fault>
     requires { IsFalse (E.state errors.old).failed }
     ensures { Writes (output (E.state errors.old) (E.state errors.new))
-        (wrong_line (wrong_of misuse.entry)) }
+        (wrong_line (option_copied value.entry) (wrong_of misuse.entry)) }
 {
     match misuse {
-        Misuse::Unknown(word) => write_line(errors, "qrlabel", &["no option ", word, ADVICE]),
+        Misuse::Unknown(word) => write_word(errors, "no option ", word),
         Misuse::NoValue(name) => {
             let option = option_word(name);
             write_line(errors, "qrlabel", &["no value after ", option, ADVICE])
         }
-        Misuse::SecondText(word) => {
-            write_line(errors, "qrlabel", &["more than one text: ", word, ADVICE])
-        }
-        Misuse::Invalid(name) => {
-            let (option, values) = (option_word(name), values_text(name));
-            write_line(
-                errors,
-                "qrlabel",
-                &["invalid ", option, ": ", values, ADVICE],
-            )
-        }
+        Misuse::SecondText(word) => write_word(errors, "more than one text: ", word),
+        Misuse::Invalid(name) => write_invalid(errors, name, value),
+        Misuse::LongTitle => write_line(errors, "qrlabel", &[LONG_TITLE, ADVICE]),
         Misuse::NeedsStream => write_line(errors, "qrlabel", &[NEEDS_STREAM, ADVICE]),
         Misuse::NeedsFile => write_line(errors, "qrlabel", &[NEEDS_FILE, ADVICE]),
+    }
+}
+
+/// Writes what is wrong with a word after it.
+fn write_word<E: Sink>(errors: &mut E, what: &str, text: &str) -> Result<(), Fault>
+    requires { IsFalse (E.state errors.old).failed }
+    ensures { Writes (output (E.state errors.old) (E.state errors.new))
+        (named_line (what.now ∷ []) (shown_word false text.now) (advice ∷ [])) }
+{
+    let word = Word {
+        text,
+        in_quotes: false,
+    };
+    write_word_line(errors, "qrlabel", &[what], word, &[ADVICE])
+}
+
+/// Writes that an option has a value that it can't have, and the value, if it is known.
+fn write_invalid<E: Sink>(errors: &mut E, name: Name, value: Option<&str>) -> Result<(), Fault>
+    requires { IsFalse (E.state errors.old).failed }
+    ensures { Writes (output (E.state errors.old) (E.state errors.new))
+        (invalid_line (option_copied value.entry) name) }
+{
+    let (option, values) = (option_word(name), values_text(name));
+    match value {
+        None => write_line(
+            errors,
+            "qrlabel",
+            &["invalid ", option, ": ", values, ADVICE],
+        ),
+        Some(text) => {
+            let word = Word {
+                text,
+                in_quotes: true,
+            };
+            let after = &[": ", values, ADVICE];
+            write_word_line(errors, "qrlabel", &["invalid ", option, " "], word, after)
+        }
     }
 }
 
@@ -133,7 +174,7 @@ fn values_text(name: Name) -> &'static str
         Name::Format => "terminal, svg, png, pbm, eps, pdf, escpos or zpl",
         Name::Content => "auto, text, bytes, gs1, gs1-unchecked, link, micro or micro-bytes",
         Name::Level => "L, M, Q or H; for a Micro symbol L, M or Q",
-        Name::Domain => "a host name, with a port or without, and with -c link",
+        Name::Domain => "a host name, or with a port or a path, and with -c link",
         Name::Strongest => "not for a Micro symbol",
         Name::MinVersion => "1 to 40, not for a Micro symbol",
         Name::MaxVersion => "1 to 40, at least --min-version, not for a Micro symbol",

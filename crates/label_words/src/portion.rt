@@ -1,13 +1,13 @@
 //! What of the input labels show, and where they are written.
 ghost use Rattle.std.specs.Prelude.{◌≡◌, option_map};
-ghost use Rattle.label_words.specs.CommandOutcomes.{outcome, portion_outcome};
+ghost use Rattle.label_words.specs.CommandOutcomes.{outcome, portion_outcome, is_document};
 ghost use Rattle.label_words.specs.Choices.{can_be_split};
 ghost use Rattle.label_words.specs.Portions.{can_follow, lines_can_follow, has_percent, numbered_output};
 ghost use Rattle.label_words.specs.Portions.{portion_asked, split_asked, details_asked, terminal_asked};
 ghost use Rattle.label_words.specs.Numberings.{numbering_of};
 ghost use Rattle.label_words.specs.Values.{said};
 
-use crate::command::{Content, Details, Portion};
+use crate::command::{Content, Details, Label, Portion};
 use crate::names::{Numbering, numbering_in};
 use crate::words::{Misuse, Name, Values};
 use picture_settings::format::Format;
@@ -141,4 +141,12 @@ pub fn check_terminal<'a>(
     } else {
         Ok(())
     }
+}
+
+/// Whether the labels of lines are the pages of one document.
+pub fn is_document(label: &Label) -> bool
+    ensures { result ≡ is_document label.now }
+{
+    let is_pdf = label.format == Format::Pdf && label.details != Details::Alone;
+    matches!(label.portion, Portion::Lines) && is_pdf
 }

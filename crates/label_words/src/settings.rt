@@ -3,7 +3,8 @@ ghost use Rattle.std.specs.Prelude.{◌≡◌};
 ghost use Rattle.label_words.specs.Values.{said};
 ghost use Rattle.label_words.specs.CommandOutcomes.{outcome, settings_outcome, wishes_of};
 ghost use Rattle.label_words.specs.Commands.{number_asked, module_asked, place_asked, settings_asked};
-ghost use Rattle.label_words.specs.Commands.{dark_asked, light_asked};
+ghost use Rattle.label_words.specs.Commands.{dark_asked, light_asked, title_asked};
+ghost use Rattle.label_words.specs.CommandOutcomes.{title_outcome};
 ghost use Rattle.label_words.specs.Commands.{some_found, zoned, dots_asked, in_dots, hri_asked};
 ghost use Rattle.label_words.specs.Choices.{is_drawn_in_dots, has_elements};
 
@@ -16,6 +17,8 @@ use picture_settings::colors::{Colors, Ground, Rgb};
 use picture_settings::format::Format;
 use picture_settings::option_words::{hundredths_of_word, number_of_word, position_of_word};
 use picture_settings::settings::Settings;
+use picture_settings::xml::is_xml_text;
+use programs::has_control;
 
 /// Returns what was found for an option that is given, or `Invalid` with its name.
 fn some_found<'a, T>(thing: Option<T>, name: Name) -> Result<Option<T>, Misuse<'a>>
@@ -57,6 +60,17 @@ fn place<'a>(values: &Values<'a>) -> Result<Option<(usize, usize)>, Misuse<'a>>
     }
 }
 
+/// Returns the title, if it is given: a text without control characters.
+fn title<'a>(values: &Values<'a>) -> Result<Option<&'a str>, Misuse<'a>>
+    ensures { title_outcome result ≡ title_asked (said values.now) }
+{
+    match values.get(Name::Title) {
+        Some(word) if is_xml_text(word) && !has_control(word) => Ok(Some(word)),
+        Some(_) => Err(Misuse::Invalid(Name::Title)),
+        None => Ok(None),
+    }
+}
+
 /// Returns the color of the dark modules, if it is given.
 fn dark<'a>(values: &Values<'a>) -> Result<Option<Rgb>, Misuse<'a>>
     ensures { outcome result ≡ dark_asked (said values.now) }
@@ -87,7 +101,7 @@ pub fn settings_of<'a>(values: &Values<'a>) -> Result<Settings<'a>, Misuse<'a>>
         module_mm: module_mm(values)?,
         dpi: number(values, Name::Dpi)?,
         inverted: values.has(Name::Inverted),
-        title: values.get(Name::Title),
+        title: title(values)?,
         caption: None,
         at: place(values)?,
         copies: number(values, Name::Copies)?,

@@ -2,10 +2,11 @@
 ghost use Rattle.std.specs.Prelude.{◌≡◌, ◌<◌, map, option_map};
 ghost use Rattle.std.specs.Option.{option_copied};
 ghost use Rattle.label_words.specs.Words.{named, picture_named, takes_value, is_text, looks_like_option};
-ghost use Rattle.label_words.specs.Words.{option_number, value_of, file_of};
+ghost use Rattle.label_words.specs.Words.{option_number, value_of, file_of, value_said};
 ghost use Rattle.label_words.specs.Words.{with, is_given, assigned, rest_after, joined_value, parted};
 ghost use Rattle.label_words.specs.Words.{read_as_text, read_plain, read_name, read_word, values_in};
 ghost use Rattle.label_words.specs.Values.{said, scan_of, scan_outcome, values_outcome, parted_of};
+ghost use Rattle.label_words.specs.Values.{wrong_of};
 
 /// An option, or the text.
 #[derive(Clone, Copy, Debug, PartialEq, Eq)]
@@ -144,6 +145,8 @@ pub enum Misuse<'a> {
     SecondText(&'a str),
     /// The option has a value that it can't have, or does not go with the others.
     Invalid(Name),
+    /// The title is too long for the format.
+    LongTitle,
     /// The labels of lines or parts can't follow each other in this format.
     NeedsStream,
     /// Bytes that are no text would be written on a terminal.
@@ -172,6 +175,16 @@ impl<'a> Values<'a> {
         match self.get(name) {
             Some("-") => None,
             file => file,
+        }
+    }
+
+    /// Returns the value of the option that is wrong, if it has one.
+    pub fn wrong_value(&self, misuse: Misuse) -> Option<&'a str>
+        ensures { option_copied result ≡ value_said (said self.now) (wrong_of misuse.entry) }
+    {
+        match misuse {
+            Misuse::Invalid(name) if takes_value(name) => self.get(name),
+            _ => None,
         }
     }
 

@@ -23,7 +23,7 @@ use Rattle.gs1.specs.declared.refusal.CheckError.TheVariants.{UnknownIdentifier,
 use Rattle.gs1.specs.declared.together.TogetherError.{TogetherError}
 use Rattle.gs1.specs.declared.together.TogetherError.TheVariants.{MissingElement, ConflictingElement}
 use Rattle.gs1.specs.declared.together.TogetherError.TheVariants.{TextTooLong as LongText}
-use Rattle.labels.specs.Pieces.{line_of, counted_from_one, digit_text, unless_zero}
+use Rattle.labels.specs.Pieces.{line_of, counted_from_one, letter_text}
 
 -- What is wrong with a value.
 abbrev pub value_reason_text : Reason → List ℕ
@@ -56,10 +56,17 @@ value_reason_text WrongSequence = codes "no place in a sequence"
 value_reason_text WrongIban = codes "wrong bank account number"
 value_reason_text WrongImporter = codes "no importer index"
 
--- The check digit that would be right in ASCII, or 0 if another thing is wrong.
-abbrev pub right_digit_byte : Reason → ℕ
-right_digit_byte (WrongCheckDigit right) = if nat_lt right 10 then 48 + right else 0
-right_digit_byte reason = 0
+-- What stands before the check digit or the pair of check characters that would be right.
+abbrev pub would_be_text : Reason → List ℕ
+would_be_text (WrongCheckDigit right) = codes "; the check digit would be "
+would_be_text (WrongCheckPair first second) = codes "; the pair would be "
+would_be_text reason = []
+
+-- The check digit or the pair in ASCII, and 0 for what it has not.
+abbrev pub right_bytes : Reason → ℕ × ℕ
+right_bytes (WrongCheckDigit right) = ((if nat_lt right 10 then 48 + right else 0), 0)
+right_bytes (WrongCheckPair first second) = (first, second)
+right_bytes reason = (0, 0)
 
 -- What stands before the number of an identifier, which has two digits at least.
 abbrev pub opening_text : ℕ → List ℕ
@@ -85,8 +92,7 @@ refusal_line name (WrongValue element identifier place reason) =
     line_of name (opening_text identifier ∷ decimal identifier ∷ codes "), element "
     ∷ decimal (counted_from_one element) ∷ codes ", character " ∷ decimal (counted_from_one place) ∷ codes ": "
     ∷ value_reason_text reason
-    ∷ unless_zero (right_digit_byte reason) (codes "; the check digit would be ")
-    ∷ digit_text (right_digit_byte reason) ∷ [])
+    ∷ would_be_text reason ∷ letter_text (right_bytes reason).0 ∷ letter_text (right_bytes reason).1 ∷ [])
 refusal_line name OutOfMemory = line_of name (codes "out of memory" ∷ [])
 
 -- The line of elements that may not stand together. Example: `(37), element 2: an element that has
@@ -105,14 +111,14 @@ unfoldable pub no_link_line : List ℕ → LinkError → List ℕ
 no_link_line name TextTooLong = line_of name (codes "more than 11815 bytes of elements" ∷ [])
 no_link_line name (Elements error) = refusal_line name error
 no_link_line name WrongDomain =
-    line_of name (codes "the domain of a link is a host name, with a port or without" ∷ [])
+    line_of name (codes "the domain of a link is a host name, or with a port or a path" ∷ [])
 no_link_line name NoKey =
     line_of name (codes "no element is the key of a link, as (01), (00) or (414) are" ∷ [])
 no_link_line name (SecondKey element) =
     line_of name (codes "element " ∷ decimal (counted_from_one element)
     ∷ codes ": a link has one key, and there is another after this one" ∷ [])
 no_link_line name (WrongQualifier element identifier) =
-    element_fault_line name element identifier (codes ": no qualifier of the link's key, or not beside another one")
+    element_fault_line name element identifier (codes ": may not stand beside another qualifier of the link's key")
 no_link_line name (RepeatedElement element identifier) =
     element_fault_line name element identifier (codes ": the identifier stands once more after it")
 no_link_line name (Together error) = apart_line name error

@@ -27,9 +27,9 @@ use Rattle.label_words.specs.Names.{Numbering, numbered}
 use Rattle.single_label.specs.Pages.{are_pages}
 use Rattle.single_label.specs.Parts.{ShowMessage, ShowsMessage, IsMessageStop}
 use Rattle.label_words.specs.Numberings.{numbering_of}
-use Rattle.label_words.specs.Settings.{setting_option}
+use Rattle.label_words.specs.Settings.{setting_wrong}
 use Rattle.labels.specs.Stops.{Devices, stop_report, end_report, stop_status}
-use Rattle.label_words.specs.Words.{Wrong, invalid}
+use Rattle.label_words.specs.Words.{Values, Wrong, value_said}
 use Rattle.label_words.specs.declared.command.Label.{Label}
 use Rattle.single_label.specs.declared.parts.TheConstants.{LONGEST_MESSAGE}
 use Rattle.labels.specs.declared.runs.TheConstants.{LEFT_OUT}
@@ -215,10 +215,11 @@ pub record ServesLines (label : Label) (options : DrawOptions) (input : Input) (
 -- ---- The whole program
 
 -- The words are wrong: the status is 2, and nothing is read or drawn.
-pub record Misused (wrong : Wrong) (kept : Type 0) (errors : Output) (status : ℕ) : Type 0 where
+pub record Misused (values : Values) (wrong : Wrong) (kept : Type 0) (errors : Output) (status : ℕ) :
+    Type 0 where
   pub status_is : status ≡ 2
   pub untouched : kept
-  pub reports : Writes errors (wrong_line wrong)
+  pub reports : Writes errors (wrong_line (value_said values wrong) wrong)
 
 -- What is written on standard error of the output.
 abbrev pub output_report : Output → List ℕ
@@ -267,16 +268,16 @@ pub record DrawsAsAsked (label : Label) (input : Input) (output : Output) (files
 
 -- The first setting that is not valid is wrong, and this needs no memory; if all are valid, the
 -- label is drawn.
-abbrev pub RunsLabel : Label → (kept : Type 0) → Input → Output → Files → Output → ℕ → Type 0
-RunsLabel label kept input output files errors status =
+abbrev pub RunsLabel : Values → Label → (kept : Type 0) → Input → Output → Files → Output → ℕ → Type 0
+RunsLabel values label kept input output files errors status =
     DrawsAsAsked label input output files errors status
     ⊎ ((setting : Setting) × (invalid_setting label.format label.settings ≡ Some setting)
-    × Misused (invalid (setting_option setting)) kept errors status)
+    × Misused values (setting_wrong label.format setting) kept errors status)
 
 -- What the program does for what the words ask for.
-abbrev pub Runs : Result Command Wrong → (kept : Type 0) → Input → Output → Files → Output → ℕ → Type 0
-Runs (Err wrong) kept input output files errors status = Misused wrong kept errors status
-Runs (Ok asks_help) kept input output files errors status = Shows help_text output errors status
-Runs (Ok asks_version) kept input output files errors status = Shows version_line output errors status
-Runs (Ok (asks_label asked)) kept input output files errors status =
-    (given : Label) × (label_of given ≡ asked) × RunsLabel given kept input output files errors status
+abbrev pub Runs : Values → Result Command Wrong → (kept : Type 0) → Input → Output → Files → Output → ℕ → Type 0
+Runs values (Err wrong) kept input output files errors status = Misused values wrong kept errors status
+Runs values (Ok asks_help) kept input output files errors status = Shows help_text output errors status
+Runs values (Ok asks_version) kept input output files errors status = Shows version_line output errors status
+Runs values (Ok (asks_label asked)) kept input output files errors status =
+    (given : Label) × (label_of given ≡ asked) × RunsLabel values given kept input output files errors status

@@ -5,10 +5,11 @@ ghost use Rattle.gs1_links.specs.declared.link_error.LinkError.TheVariants.{Seco
 ghost use Rattle.gs1.specs.declared.refusal.CheckError.TheVariants.{InvalidIdentifier, WrongValue};
 ghost use Rattle.gs1.specs.declared.together.TogetherError.TheVariants.{ConflictingElement};
 ghost use Rattle.programs.specs.Devices.{output, Writes};
-ghost use Rattle.labels.specs.Refusals.{refusal_line, opening_text, value_reason_text, right_digit_byte};
+ghost use Rattle.labels.specs.Refusals.{refusal_line, opening_text, value_reason_text};
+ghost use Rattle.labels.specs.Refusals.{right_bytes, would_be_text};
 ghost use Rattle.labels.specs.Refusals.{element_fault_line, no_link_line, apart_line};
 
-use crate::pieces::{NO_ELEMENTS, WOULD_BE, digit_text, unless_zero};
+use crate::pieces::{NO_ELEMENTS, PAIR_WOULD_BE, WOULD_BE, letter_text};
 use gs1::{CheckError, Reason, TogetherError};
 use gs1_links::LinkError;
 use itoa::Buffer;
@@ -17,7 +18,7 @@ use programs::{Fault, Sink, write_line};
 /// What is wrong with an element, after its number.
 const UNKNOWN: &str = ": unknown identifier";
 
-const NO_QUALIFIER: &str = ": no qualifier of the link's key, or not beside another one";
+const NO_QUALIFIER: &str = ": may not stand beside another qualifier of the link's key";
 
 const REPEATED: &str = ": the identifier stands once more after it";
 
@@ -27,7 +28,7 @@ const MISSING: &str = ": an element that has to stand beside it is missing";
 const LONG_TEXT: &str = "more than 11815 bytes of elements";
 
 /// What is wrong with a domain, or with all elements.
-const WRONG_DOMAIN: &str = "the domain of a link is a host name, with a port or without";
+const WRONG_DOMAIN: &str = "the domain of a link is a host name, or with a port or a path";
 
 const NO_KEY: &str = "no element is the key of a link, as (01), (00) or (414) are";
 
@@ -196,7 +197,7 @@ fn write_value<E: Sink>(
 {
     let (element, identifier, place) = at;
     let (mut digits, mut number, mut character) = (Buffer::new(), Buffer::new(), Buffer::new());
-    let right = right_digit(reason);
+    let (first, second) = right_bytes(reason);
     write_line(
         errors,
         name,
@@ -209,8 +210,9 @@ fn write_value<E: Sink>(
             character.format(place.saturating_add(1)),
             ": ",
             reason_text(reason),
-            unless_zero(right, WOULD_BE),
-            digit_text(right),
+            would_be_text(reason),
+            letter_text(first),
+            letter_text(second),
         ],
     )
 }
@@ -222,13 +224,25 @@ fn opening_text(identifier: usize) -> &'static str
     if identifier < 10 { "(0" } else { "(" }
 }
 
-/// Returns the check digit that would be right in ASCII, or 0 if another thing is wrong.
-fn right_digit(reason: Reason) -> u8
-    ensures { result ≡ right_digit_byte reason }
+/// Returns what stands before the check digit or the pair of check characters that would be right.
+fn would_be_text(reason: Reason) -> &'static str
+    ensures { result.now ≡ would_be_text reason }
 {
     match reason {
-        Reason::WrongCheckDigit { right } if right < 10 => b'0' + right,
-        _ => 0,
+        Reason::WrongCheckDigit { .. } => WOULD_BE,
+        Reason::WrongCheckPair { .. } => PAIR_WOULD_BE,
+        _ => "",
+    }
+}
+
+/// Returns the check digit or the pair of check characters in ASCII, and 0 for what it has not.
+fn right_bytes(reason: Reason) -> (u8, u8)
+    ensures { result ≡ right_bytes reason }
+{
+    match reason {
+        Reason::WrongCheckDigit { right } if right < 10 => (b'0' + right, 0),
+        Reason::WrongCheckPair { first, second } => (first, second),
+        _ => (0, 0),
     }
 }
 

@@ -14,7 +14,7 @@ use crate::stop::{Devices, LineStop};
 use gs1::Gs1Error;
 use itoa::Buffer;
 use programs::{
-    CLOSED_PIPE, Fault, Sink, is_closed_pipe, report, report_device, write_all, write_line,
+    CLOSED_PIPE, Fault, Sink, is_closed_pipe, push_all, report, report_device, write_line,
 };
 use qrcode_base::symbols::LONGEST_DATA;
 use qrcode_core::types::{EcLevel, Version};
@@ -136,7 +136,7 @@ fn report_line<E: Sink>(errors: &mut E, devices: &Devices, at: LineStop) -> u8
     ensures reported { Writes (output (E.state errors.old) (E.state errors.new))
         (end_report (devices_of devices.now) at) }
 {
-    if write_all(errors, b"qrlabel: line ").is_err() {
+    if push_all(errors, b"qrlabel: line ").is_err() {
         return 1;
     }
     let mut buffer = Buffer::new();
@@ -166,7 +166,7 @@ fn write_left_out<E: Sink>(errors: &mut E, at: LineStop)
     requires { IsFalse (E.state errors.old).failed }
     ensures { Writes (output (E.state errors.old) (E.state errors.new)) (numbered_line at) }
 {
-    if write_all(errors, b"qrlabel: line ").is_err() {
+    if push_all(errors, b"qrlabel: line ").is_err() {
         return;
     }
     let mut buffer = Buffer::new();

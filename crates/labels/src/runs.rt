@@ -19,8 +19,8 @@ ghost use Rattle.labels.specs.Devices.{devices_of};
 ghost use Rattle.labels.specs.Runs.{ServesLines, lines_status, lines_reported};
 ghost use Rattle.labels.specs.Runs.{Shows, RunsLabel, Runs};
 ghost use Rattle.label_words.specs.Values.{said, wrong_of};
-ghost use Rattle.label_words.specs.Settings.{setting_option};
-ghost use Rattle.label_words.specs.Words.{invalid};
+ghost use Rattle.label_words.specs.Settings.{setting_option, setting_wrong};
+ghost use Rattle.label_words.specs.Words.{value_said};
 
 use crate::document::draw_pages;
 use crate::files::{Files, draw_files};
@@ -33,7 +33,7 @@ use label_words::{
     write_misuse,
 };
 use programs::{Sink, Source, report_device, write_all};
-use qrcode_render::{DrawOptions, Setting};
+use qrcode_render::{DrawOptions, Format, Setting};
 use single_label::are_pages;
 use std::alloc::Global;
 
@@ -177,14 +177,15 @@ fn serve<R: Source, W: Sink, F: Files, E: Sink>(
     }
 }
 
-/// Writes what is wrong with the words, and returns the status 2.
-pub fn misused<E: Sink>(errors: &mut E, misuse: Misuse) -> u8
+/// Writes what is wrong with the words, and returns the status 2. `value` is the value of the option
+/// that is wrong, if it is known.
+pub fn misused<E: Sink>(errors: &mut E, misuse: Misuse, value: Option<&str>) -> u8
     requires sound { IsFalse (E.state errors.old).failed }
     ensures status { result ≡ 2 }
     ensures reported { Writes (output (E.state errors.old) (E.state errors.new))
-        (wrong_line (wrong_of misuse.entry)) }
+        (wrong_line (option_copied value.entry) (wrong_of misuse.entry)) }
 {
-    let _ = write_misuse(errors, misuse);
+    let _ = write_misuse(errors, misuse, value);
     2
 }
 
@@ -230,20 +231,33 @@ fn setting_option(setting: Setting) -> Name
     }
 }
 
+/// Returns what is wrong with the words where a setting is not valid in a format.
+fn setting_misuse<'a>(format: Format, setting: Setting) -> Misuse<'a>
+    ensures { wrong_of result ≡ setting_wrong format setting }
+{
+    match setting {
+        Setting::Title if format.has_title() => Misuse::LongTitle,
+        setting => Misuse::Invalid(setting_option(setting)),
+    }
+}
+
 /// Writes that a setting is not valid, by its option, and returns the status 2.
-fn wrong_setting<E: Sink>(errors: &mut E, setting: Setting) -> u8
+fn wrong_setting<E: Sink>(errors: &mut E, values: &Values, format: Format, setting: Setting) -> u8
     requires sound { IsFalse (E.state errors.old).failed }
     ensures status { result ≡ 2 }
     ensures reported { Writes (output (E.state errors.old) (E.state errors.new))
-        (wrong_line (invalid (setting_option setting))) }
+        (wrong_line (value_said (said values.now) (setting_wrong format setting))
+        (setting_wrong format setting)) }
 {
-    misused(errors, Misuse::Invalid(setting_option(setting)))
+    let misuse = setting_misuse(format, setting);
+    misused(errors, misuse, values.wrong_value(misuse))
 }
 
 /// Draws the label, and returns the exit status: that of `serve`, or 2 if a setting of the picture
 /// is not valid.
 fn run_label<R: Source, W: Sink, F: Files, E: Sink>(
     alloc: Global,
+    values: &Values,
     label: &Label,
     reader: &mut R,
     writer: &mut W,
@@ -254,7 +268,7 @@ fn run_label<R: Source, W: Sink, F: Files, E: Sink>(
     requires writer_sound { IsFalse (W.state writer.old).failed }
     requires files_sound { IsFalse (F.state files.old).failed }
     requires errors_sound { IsFalse (E.state errors.old).failed }
-    ensures { RunsLabel label.now
+    ensures { RunsLabel (said values.now) label.now
         ((reader.new ≡ reader.old) × (writer.new ≡ writer.old) × (files.new ≡ files.old))
         (input (R.state reader.old) (R.state reader.new))
         (output (W.state writer.old) (W.state writer.new))
@@ -263,7 +277,7 @@ fn run_label<R: Source, W: Sink, F: Files, E: Sink>(
 {
     match DrawOptions::new(alloc, label.format, &label.settings) {
         Ok(options) => serve(alloc, label, &options, reader, writer, files, errors),
-        Err(setting) => wrong_setting(errors, setting),
+        Err(setting) => wrong_setting(errors, values, label.format, setting),
     }
 }
 
@@ -283,7 +297,7 @@ pub fn run<R: Source, W: Sink, F: Files, E: Sink>(
     requires writer_sound { IsFalse (W.state writer.old).failed }
     requires files_sound { IsFalse (F.state files.old).failed }
     requires errors_sound { IsFalse (E.state errors.old).failed }
-    ensures { Runs (command_asked on_terminal (said values.now))
+    ensures { Runs (said values.now) (command_asked on_terminal (said values.now))
         ((reader.new ≡ reader.old) × (writer.new ≡ writer.old) × (files.new ≡ files.old))
         (input (R.state reader.old) (R.state reader.new))
         (output (W.state writer.old) (W.state writer.new))
@@ -293,7 +307,9 @@ pub fn run<R: Source, W: Sink, F: Files, E: Sink>(
     match command_of(values, on_terminal) {
         Ok(Command::Help) => show(help_text(), writer, errors),
         Ok(Command::Version) => show(version_text(), writer, errors),
-        Ok(Command::Label(label)) => run_label(alloc, &label, reader, writer, files, errors),
-        Err(misuse) => misused(errors, misuse),
+        Ok(Command::Label(label)) => {
+            run_label(alloc, values, &label, reader, writer, files, errors)
+        }
+        Err(misuse) => misused(errors, misuse, values.wrong_value(misuse)),
     }
 }

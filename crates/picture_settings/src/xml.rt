@@ -13,7 +13,7 @@ fn is_xml_character(c: char) -> bool
 }
 
 /// Whether XML 1.0 allows all characters of the text.
-pub(crate) fn is_xml_text(text: &str) -> bool
+pub fn is_xml_text(text: &str) -> bool
     ensures { result ≡ is_xml_text text.now }
 {
     text.chars().all(is_xml_character)

@@ -1,4 +1,5 @@
 pub mod DeviceLemmas
 pub mod Levels
 pub mod LineLemmas
+pub mod QuoteLemmas
 pub mod Ranges

@@ -4,3 +4,4 @@ pub mod Reasons
 pub mod Outcome
 pub mod Calls
 pub mod Parts
+pub mod Quotes

@@ -1,6 +1,7 @@
 -- Why the system did not do something: the words for it, and the line of a program.
 use Rattle.std.specs.Prelude.{ℕ, Bool, true, false, if◌then◌else◌, Option, Some, unwrap_or}
-use Rattle.std.specs.Prelude.{List, [], ◌∷◌, ◌++◌, codes}
+use Rattle.std.specs.Prelude.{List, [], ◌∷◌, codes}
+use Rattle.programs.specs.Quotes.{shown_word, word_line}
 use Rattle.programs.specs.declared.reasons.TheConstants.{CLOSED_PIPE}
 use Rattle.std.specs.declared.io.ErrorKind.{ErrorKind}
 use Rattle.std.specs.declared.io.ErrorKind.TheVariants.{NotFound, PermissionDenied, BrokenPipe}
@@ -50,8 +51,8 @@ is_closed_pipe _ = false
 -- The line for what could not be done with the file or the device of a name, and why.
 abbrev pub device_line : List ℕ → List ℕ → List ℕ → List ℕ → List ℕ
 device_line program what name why =
-    program ++ (codes ": " ++ ((codes "cannot " ++ (what ++ (codes " "
-    ++ (name ++ (codes ": " ++ why))))) ++ 10 ∷ []))
+    word_line program (codes "cannot " ∷ what ∷ codes " " ∷ []) (shown_word false name)
+    (codes ": " ∷ why ∷ [])
 
 -- What a program writes about a file or a device that failed: a line, and of a closed pipe nothing.
 abbrev pub device_report : List ℕ → List ℕ → List ℕ → Option ErrorKind → List ℕ

@@ -62,9 +62,9 @@ impl<'a> WholeFile<'a> {
         &self.file
     }
 
-    /// Gives the file its new content, once the system has stored it. It fails with the reason that
-    /// the system gives. Then the file has the content that it had, unless it was written in place.
-    /// No part is left.
+    /// Gives the file its new content, once the system has stored it, and waits until the system has
+    /// stored the name too, where it can. It fails with the reason that the system gives. Then the
+    /// file has the content that it had, unless it was written in place. No part is left.
     pub fn finish(self) -> Result<(), ErrorKind> {
         if let Place::Part { .. } = &self.place
             && let Err(error) = self.file.sync_all()
@@ -72,7 +72,36 @@ impl<'a> WholeFile<'a> {
             self.discard();
             return Err(error.kind());
         }
-        self.end()
+        let folder = match self.folder() {
+            Ok(folder) => folder,
+            Err(kind) => {
+                self.discard();
+                return Err(kind);
+            }
+        };
+        let ended = self.end();
+        if let Some(folder) = folder {
+            let _ = folder.sync_all();
+        }
+        ended
+    }
+
+    /// Opens the folder in which a part gets its name, if it can be read. It fails only for lack of
+    /// memory.
+    fn folder(&self) -> Result<Option<File>, ErrorKind> {
+        let Place::Part { name, .. } = &self.place else {
+            return Ok(None);
+        };
+        let Ok(path) = name.with_file_name(self.rt.alloc(), ".") else {
+            return Err(ErrorKind::OutOfMemory);
+        };
+        match File::open(self.rt, &path) {
+            Ok(folder) => Ok(Some(folder)),
+            Err(error) => match error.kind() {
+                ErrorKind::OutOfMemory => Err(ErrorKind::OutOfMemory),
+                _ => Ok(None),
+            },
+        }
     }
 
     /// Does what `finish` does, but does not wait until the system has stored the content.

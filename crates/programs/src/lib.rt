@@ -27,7 +27,9 @@ use std::{env, fmt};
 mod descriptors;
 mod devices;
 mod files;
+mod gathered;
 mod lines;
+mod quotes;
 mod reasons;
 mod reports;
 mod runs;
@@ -35,7 +37,9 @@ mod runs;
 pub use descriptors::held_descriptors;
 pub use devices::{FromReader, FromWriter, Sink, Source};
 pub use files::{WholeFile, put_file};
+pub use gathered::Gathered;
 pub use lines::{read_line, skip_line};
+pub use quotes::{Word, has_control, write_word_line};
 pub use reasons::{CLOSED_PIPE, is_closed_pipe, reason_text, report_device};
 pub use reports::{report, write_line};
 pub use runs::{Program, draw, run};
@@ -171,7 +175,7 @@ pub fn write_all<W: Sink>(writer: &mut W, text: &[u8]) -> Result<(), Fault>
 
 /// Writes the whole text, without a flush. It fails with `Write` if the writer failed.
 #[tactic(auto, using(crate::proofs::DeviceLemmas::writing))]
-fn push_all<W: Sink>(writer: &mut W, text: &[u8]) -> Result<(), Fault>
+pub fn push_all<W: Sink>(writer: &mut W, text: &[u8]) -> Result<(), Fault>
     requires { IsFalse (W.state writer.old).failed }
     ensures writes { Writes (output (W.state writer.old) (W.state writer.new)) text.now }
     ensures failure { (W.state writer.new).failed ≡ is_err result }

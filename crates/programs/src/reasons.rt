@@ -4,7 +4,7 @@ ghost use Rattle.programs.specs.Devices.{output, Writes};
 ghost use Rattle.programs.specs.Reasons.{reason_text, is_closed_pipe, device_report};
 ghost use Rattle.programs.specs.Reasons.{device_line, device_status};
 
-use crate::{Fault, Sink, write_line};
+use crate::{Fault, Sink, Word, write_word_line};
 use std::io::ErrorKind;
 
 /// The status that a shell gives a program which SIGPIPE ended.
@@ -12,7 +12,8 @@ pub const CLOSED_PIPE: u8 = 141;
 
 /// Writes what could not be done with the file or the device of a name, and why, as one line after
 /// the program's name, without an allocation, and returns the status 1. The line is
-/// `PROGRAM: cannot WHAT NAME: REASON`. Where no reason is known, it is "input or output error".
+/// `PROGRAM: cannot WHAT NAME: REASON`. Where no reason is known, it is "input or output error". A
+/// name with a control character is quoted as a shell reads it.
 ///
 /// Of a pipe that nobody reads from any more it writes nothing, and the status is 141.
 pub fn report_device<E: Sink>(
@@ -47,7 +48,11 @@ fn write_device<E: Sink>(
     ensures { Writes (output (E.state errors.old) (E.state errors.new))
         (device_line program.now what.now name.now why.now) }
 {
-    write_line(errors, program, &["cannot ", what, " ", name, ": ", why])
+    let word = Word {
+        text: name,
+        in_quotes: false,
+    };
+    write_word_line(errors, program, &["cannot ", what, " "], word, &[": ", why])
 }
 
 /// Whether a pipe was written to that nobody reads from any more.

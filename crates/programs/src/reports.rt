@@ -262,7 +262,7 @@ pub fn write_line<E: Sink>(errors: &mut E, program: &str, pieces: &[&str]) -> Re
 }
 
 /// Writes the pieces of a text one after the other, without a flush.
-fn push_pieces<E: Sink>(errors: &mut E, pieces: &[&str]) -> Result<(), Fault>
+pub(crate) fn push_pieces<E: Sink>(errors: &mut E, pieces: &[&str]) -> Result<(), Fault>
     requires { IsFalse (E.state errors.old).failed }
     ensures writes { Writes (output (E.state errors.old) (E.state errors.new))
         (flat_map (λ piece. piece.now) pieces.now) }

@@ -90,11 +90,11 @@ pieces_of content bytes segments =
 
 -- ---- Elements
 
--- Whether a byte is one of the 82 characters of element strings (GS1 General Specifications,
--- "GS1 AI encodable character set 82").
+-- Whether a byte is a character of element strings: one of the 82 of most values, or the number
+-- sign (GS1 General Specifications, "GS1 AI encodable character set 82" and "set 39").
 unfoldable pub is_element_character : ℕ → Bool
 is_element_character c =
-    is_between 0x21 0x22 c || is_between 0x25 0x3f c || is_between 0x41 0x5a c || (c == 0x5f)
+    is_between 0x21 0x23 c || is_between 0x25 0x3f c || is_between 0x41 0x5a c || (c == 0x5f)
     || is_between 0x61 0x7a c
 
 -- The byte at a place is one of these characters, or a separator between two elements: neither
@@ -106,8 +106,8 @@ IsElementByte bytes place =
     ⊎ ((byte ≡ separator) × (0 < place) × (place + 1 < length bytes)
     × (slice_index_or bytes (place - 1) 0 ≢ separator))
 
--- The bytes are elements: each is one of the 82 characters of GS1, or a separator between two
--- elements, which is neither first nor last, and not after another.
+-- The bytes are elements: each is one of the 82 characters of GS1, a number sign, or a separator
+-- between two elements, which is neither first nor last, and not after another.
 abbrev pub AreElements : List ℕ → Type 0
 AreElements bytes = (place : ℕ) → place < length bytes → IsElementByte bytes place
 

@@ -90,22 +90,22 @@ elements_refused elements asked options room (core.OutOfMemory) refusal means ve
 elements_refused elements asked options room (core.InvalidResourceLimits) refusal means versions refused stands = absurd (refused versions)
 elements_refused elements asked options room other refusal means versions refused stands = absurd refused.1.1
 
-pub written_refused : (by_table : Bool) (text elements : List ℕ) (asked : Options) (options : SymbolOptions) (room : ℕ) (error : QrError)
-    (refusal : Refusal) → Means asked options → HasVersions options → text_refusal by_table text ≡ None → FindsOnly elements (written_elements text) →
+pub written_refused : (checked : Bool) (text elements : List ℕ) (asked : Options) (options : SymbolOptions) (room : ℕ) (error : QrError)
+    (refusal : Refusal) → Means asked options → HasVersions options → text_refusal checked text ≡ None → FindsOnly elements (written_elements text) →
     AreElements elements → IsElementsOptionsRefusal options (front_of None Elements) elements error → status_error error ≡ Some refusal →
-    IsWrittenRefusal by_table text asked room refusal
-written_refused by_table text elements asked options room (core.InvalidCharacter place byte) refusal means versions faultless found are refused stands =
+    IsWrittenRefusal checked text asked room refusal
+written_refused checked text elements asked options room (core.InvalidCharacter place byte) refusal means versions faultless found are refused stands =
     absurd (refused.1.here (are place (slice_get_within elements _ _ refused.1.byte_is)))
-written_refused by_table text elements asked options room (core.DataTooLong) refusal means versions faultless found are refused stands =
+written_refused checked text elements asked options room (core.DataTooLong) refusal means versions faultless found are refused stands =
     let same : call.DataTooLong ≡ refusal = cc in
-    subst (IsWrittenRefusal by_table text asked room) same
-    record { elements = elements; faultless = faultless; found = found; true_of = asked_for asked options _ means versions refused.1 }
-written_refused by_table text elements asked options room (core.OutOfMemory) refusal means versions faultless found are refused stands =
+    subst (IsWrittenRefusal checked text asked room) same (inr
+    record { elements = elements; faultless = faultless; found = found; true_of = asked_for asked options _ means versions refused.1 })
+written_refused checked text elements asked options room (core.OutOfMemory) refusal means versions faultless found are refused stands =
     let same : call.OutOfMemory ≡ refusal = cc in
-    subst (IsWrittenRefusal by_table text asked room) same (asked_for asked options _ means versions faultless)
-written_refused by_table text elements asked options room (core.InvalidResourceLimits) refusal means versions faultless found are refused stands =
+    subst (IsWrittenRefusal checked text asked room) same (asked_for asked options _ means versions faultless)
+written_refused checked text elements asked options room (core.InvalidResourceLimits) refusal means versions faultless found are refused stands =
     absurd (refused versions)
-written_refused by_table text elements asked options room other refusal means versions faultless found are refused stands = absurd refused.1.1
+written_refused checked text elements asked options room other refusal means versions faultless found are refused stands = absurd refused.1.1
 
 pub linked_refused : (text domain link : List ℕ) (asked : Options) (options : SymbolOptions) (room : ℕ) (error : QrError) (refusal : Refusal) →
     Means asked options → HasVersions options → link_fault text domain ≡ None → link ≡ link_of domain (written_elements text) →

@@ -2,10 +2,11 @@
 use Rattle.std.proofs.Common.{◌≡◌, ◌∙◌, refl, sym, ap, subst, inl}
 use Rattle.std.specs.Prelude.{◌<◌, ◌++◌, length, drop, Result, Ok, Err, OnOk, OnErr, IfErr}
 use Rattle.std.specs.Prelude.{ℕ, Bool, true, false, List, Option, Some, None, ◌==◌, if◌then◌else◌}
-use Rattle.std.specs.Option.{option_map}
+use Rattle.std.specs.Option.{option_map, option_or}
 use Rattle.gs1.specs.Elements.{text_fault, written_elements}
 use Rattle.gs1_links.specs.LinkReader.{ReadsLink}
 use Rattle.gs1_links.specs.Links.{link_error, link_of, linked, IsRefusedLink}
+use Rattle.gs1.specs.Together.{text_conflict}
 use Rattle.gs1.specs.Values.{text_error}
 use Rattle.gs1.specs.declared.error.Gs1Error.{Gs1Error}
 use Rattle.gs1.specs.declared.error.Gs1Error.TheVariants as fault
@@ -22,12 +23,12 @@ use Rattle.qrcode_core.specs.declared.options.SymbolOptions.{SymbolOptions}
 use Rattle.qrcode_c.specs.Asking.{Means}
 use Rattle.qrcode_c.specs.Faults.{refusal_for, value_refusal, table_refusal, together_refusal, link_refusal, IsFaultRefusal, link_place_of}
 use Rattle.qrcode_c.specs.Linked.{link_fault, HasLink, HoldsLink, IsLinkedRefusal, IsLinkTextRefusal, IsNoLinkRefusal}
-use Rattle.qrcode_c.specs.Written.{text_refusal, IsWrittenRefusal}
+use Rattle.qrcode_c.specs.Written.{text_refusal, checked_refusal, IsWrittenRefusal, IsTableRefusal}
 use Rattle.qrcode_c.specs.declared.options.Options.{Options}
 use Rattle.qrcode_c.specs.declared.refusal.Refusal.{Refusal}
 use Rattle.qrcode_c.specs.declared.refusal.Refusal.TheVariants as call
 use Rattle.qrcode_c.proofs.CoreErrors.{asked_for}
-use Rattle.qrcode_c.proofs.LinkMemory.{no_memory}
+use Rattle.qrcode_c.proofs.LinkMemory.{no_memory, text_other}
 
 -- ---- What no fault is
 
@@ -113,9 +114,24 @@ mapped f test None refusal all is = let h : None ≡ Some refusal = is in cc
 mapped f test (Some e) refusal all is =
     let h : Some (f e) ≡ Some refusal = is in let same : f e ≡ refusal = cc in subst (λ r. test r ≡ false) same (all e)
 
-written_other : (by_table : Bool) (text : List ℕ) (refusal : Refusal) → text_refusal by_table text ≡ Some refusal → is_other refusal ≡ false
-written_other true text refusal is = mapped table_refusal is_other (text_error text) refusal table_other is
-written_other false text refusal is = mapped refusal_for is_other (text_fault text) refusal reader_other is
+-- A fault of two is one of them.
+one_of : {X : Type 0} (a b : Option Refusal) (refusal : Refusal) → (a ≡ Some refusal → X) → (b ≡ Some refusal → X) →
+    option_or a b ≡ Some refusal → X
+one_of None b refusal first second is = second is
+one_of (Some x) b refusal first second is = first is
+
+table_early : (error : CheckError) → is_early (table_refusal error) ≡ false
+table_early error = early_of (table_refusal error) (table_other error)
+
+reader_early : (error : Gs1Error) → is_early (refusal_for error) ≡ false
+reader_early error = early_of (refusal_for error) (reader_other error)
+
+written_early : (checked : Bool) (text : List ℕ) (refusal : Refusal) → text_refusal checked text ≡ Some refusal → is_early refusal ≡ false
+written_early true text refusal is =
+    one_of (option_map table_refusal (text_error text)) (option_map together_refusal (text_conflict text)) refusal
+    (mapped table_refusal is_early (text_error text) refusal table_early)
+    (mapped together_refusal is_early (text_conflict text) refusal together_early) is
+written_early false text refusal is = mapped refusal_for is_early (text_fault text) refusal reader_early is
 
 no_link_early : (text domain : List ℕ) (refusal : Refusal) → link_fault text domain ≡ Some refusal → is_early refusal ≡ false
 no_link_early text domain refusal is = mapped link_refusal is_early (link_error text domain) refusal link_early is
@@ -155,15 +171,46 @@ no_link text domain (link.RepeatedElement element identifier) refused = ap (opti
 no_link text domain (link.Together error) refused = together_fault_of text domain error refused
 no_link text domain (link.OutOfMemory) refused = ap (option_map link_refusal) refused
 
+together_no_memory : (error : TogetherError) → is_memory (together_refusal error) ≡ false
+together_no_memory (together.TextTooLong) = refl
+together_no_memory (together.MissingElement element identifier) = refl
+together_no_memory (together.ConflictingElement element identifier other) = refl
+
+table_no_memory : (error : Option CheckError) (refusal : Refusal) → (error ≡ Some (table.OutOfMemory) → ⊥) →
+    option_map table_refusal error ≡ Some refusal → is_memory refusal ≡ false
+table_no_memory None refusal other is = let h : None ≡ Some refusal = is in cc
+table_no_memory (Some error) refusal other is =
+    let h : Some (table_refusal error) ≡ Some refusal = is in let same : table_refusal error ≡ refusal = cc in
+    subst (λ r. is_memory r ≡ false) same (kept error other)
+  where
+    kept : (error : CheckError) → (Some error ≡ Some (table.OutOfMemory) → ⊥) → is_memory (table_refusal error) ≡ false
+    kept (table.NoElements) other = refl
+    kept (table.InvalidIdentifier element) other = refl
+    kept (table.UnknownIdentifier element identifier) other = refl
+    kept (table.WrongValue element identifier place why) other = value_no_memory place why
+    kept (table.OutOfMemory) other = absurd (other refl)
+
+-- The error that tells the first fault of a text that is checked.
+pub checked_failed : (text : List ℕ) (refusal : Refusal) → Some refusal ≡ checked_refusal text → IsFaultRefusal (checked_refusal text) refusal
+checked_failed text refusal is =
+    told (checked_refusal text) refusal
+    (one_of (option_map table_refusal (text_error text)) (option_map together_refusal (text_conflict text)) refusal
+    (table_no_memory (text_error text) refusal (text_other text))
+    (mapped together_refusal is_memory (text_conflict text) refusal together_no_memory) (sym is)) (sym is)
+
+pub table_failed : (text : List ℕ) (refusal : Refusal) → Some refusal ≡ checked_refusal text → IsTableRefusal text refusal
+table_failed text (call.InvalidText) is = absurd (never true refl (written_early true text _ (sym is)))
+table_failed text refusal is = sym is
+
 -- The error of a call that tells the first fault, behind the options.
-pub written_failed : (by_table : Bool) (text : List ℕ) (asked : Options) (options : SymbolOptions) (room : ℕ) (refusal : Refusal) →
-    Means asked options → HasVersions options → IsFaultRefusal (text_refusal by_table text) refusal → IsWrittenRefusal by_table text asked room refusal
-written_failed by_table text asked options room (call.InvalidLevel) means versions failed = absurd (never true refl (written_other by_table text _ failed))
-written_failed by_table text asked options room (call.InvalidVersions) means versions failed = absurd (never true refl (written_other by_table text _ failed))
-written_failed by_table text asked options room (call.InvalidText) means versions failed = absurd (never true refl (written_other by_table text _ failed))
-written_failed by_table text asked options room (call.DataTooLong) means versions failed = absurd (never true refl (written_other by_table text _ failed))
-written_failed by_table text asked options room (call.ShortBuffer) means versions failed = absurd (never true refl (written_other by_table text _ failed))
-written_failed by_table text asked options room refusal means versions failed = asked_for asked options _ means versions failed
+pub written_failed : (checked : Bool) (text : List ℕ) (asked : Options) (options : SymbolOptions) (room : ℕ) (refusal : Refusal) →
+    Means asked options → HasVersions options → IsFaultRefusal (text_refusal checked text) refusal → IsWrittenRefusal checked text asked room refusal
+written_failed checked text asked options room (call.InvalidLevel) means versions failed = absurd (never true refl (written_early checked text _ failed))
+written_failed checked text asked options room (call.InvalidVersions) means versions failed = absurd (never true refl (written_early checked text _ failed))
+written_failed checked text asked options room (call.InvalidText) means versions failed = absurd (never true refl (written_early checked text _ failed))
+written_failed checked text asked options room (call.ShortBuffer) means versions failed = absurd (never true refl (written_early checked text _ failed))
+written_failed checked text asked options room (call.DataTooLong) means versions failed = inl (asked_for asked options _ means versions failed)
+written_failed checked text asked options room refusal means versions failed = asked_for asked options _ means versions failed
 
 pub linked_failed : (text domain : List ℕ) (asked : Options) (options : SymbolOptions) (room : ℕ) (refusal : Refusal) →
     Means asked options → HasVersions options → IsFaultRefusal (link_fault text domain) refusal → IsLinkedRefusal text domain asked room refusal

@@ -1,18 +1,17 @@
 -- Why there is no link is never that an allocation failed, and no domain is a text that is
 -- not UTF-8.
 use Rattle.std.proofs.Common.{◌≡◌, ◌∙◌, refl, sym, ap, arith}
-use Rattle.std.specs.Prelude.{ℕ, ◌+◌, ◌<◌, Bool, true, false, List, [], ◌∷◌, length, All, Option, Some, None, if◌then◌else◌}
+use Rattle.std.specs.Prelude.{ℕ, ◌+◌, ◌<◌, Bool, true, false, List, [], ◌∷◌, length, drop, All, Option, Some, None, if◌then◌else◌}
 use Rattle.std.specs.Prelude.{◌&&◌, ◌||◌, ◌==◌, nat_lt, is_some, Result, Ok, Err, IfOk, OnOk, IfErr}
 use Rattle.std.specs.Option.{option_or, option_map}
-use Rattle.std.specs.List.{list_any, list_all, before_first, after_first, position_or_len}
+use Rattle.std.specs.List.{list_any, list_all, before_first, slice_split}
 use Rattle.std.specs.Str.{IsUtf8}
 use Rattle.std.proofs.lemmas.Grind.{common_steps}
 use Rattle.std.proofs.lemmas.Str.{IsUtf8-from_ascii}
 use Rattle.std.proofs.lemmas.Str.Ascii.{IsAscii-from_all}
 use Rattle.std.proofs.lemmas.List.Elements.{All-cons, All-nil}
 use Rattle.gs1.specs.Elements.{Element, written_elements}
-use Rattle.gs1_base.specs.Domains.{is_colon}
-use Rattle.gs1_base.specs.Domains.{is_domain, is_domain_character, are_labels, is_port}
+use Rattle.gs1_base.specs.Domains.{is_domain, is_domain_character, is_host, is_segment, is_slash}
 use Rattle.gs1_links.specs.Links.{keys, number, domain_fault, text_length_fault, no_key_fault}
 use Rattle.gs1_links.specs.Links.{qualifier_fault, second_key_fault, repeated_fault, later_fault, place_with}
 use Rattle.gs1_links.specs.Links.{first_rule_fault, elements_fault, excluded_qualifiers, link_error, IsRefusedLink}
@@ -92,7 +91,7 @@ mapped_other None other = none_other
 mapped_other (Some error) other =
     λ e. let h : Some (Elements error) ≡ Some (Elements NoMemory) = e in let same : error ≡ NoMemory = cc in other (ap Some same)
 
-text_other : (text : List ℕ) → text_error text ≡ Some NoMemory → ⊥
+pub text_other : (text : List ℕ) → text_error text ≡ Some NoMemory → ⊥
 text_other text e = let h : None ≡ Some NoMemory = sym (refused_text text NoMemory e) ∙ e in cc
 
 domain_other : (domain : List ℕ) → IsOther (domain_fault domain)
@@ -144,8 +143,8 @@ first_of_three false b c is = is
 all_of : (domain : List ℕ) → is_domain domain ≡ true → list_all is_domain_character domain ≡ true
 unfolding is_domain
 all_of domain is =
-    first_of_three (list_all is_domain_character domain) (are_labels (before_first is_colon domain))
-    ((position_or_len is_colon domain == length domain) || is_port (after_first is_colon domain)) is
+    first_of_three (list_all is_domain_character domain) (is_host (before_first is_slash domain))
+    (list_all is_segment (drop 1 (slice_split is_slash domain))) is
 
 no_text : (domain : List ℕ) → (IsUtf8 domain → ⊥) → domain_fault domain ≡ Some WrongDomain
 unfolding domain_fault
@@ -154,7 +153,7 @@ no_text domain none =
     (λ is. none (IsUtf8-from_ascii domain (IsAscii-from_all domain (all_small domain (all_of domain is)))))
 
 nothing : domain_fault [] ≡ Some WrongDomain
-unfolding domain_fault is_domain
+unfolding domain_fault is_domain is_host
 nothing = refl
 
 -- A domain that is not UTF-8 is as wrong as an empty one.

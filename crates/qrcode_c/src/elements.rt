@@ -8,7 +8,7 @@ ghost use Rattle.qrcode_c.specs.Linked.{link_fault, HasLink, IsLinkedRefusal, Ho
 ghost use Rattle.qrcode_c.specs.Linked.{IsLinkTextRefusal, IsNoLinkRefusal, TellsLinkPlace};
 ghost use Rattle.qrcode_c.specs.Refusals.{IsStatusOf};
 ghost use Rattle.qrcode_c.specs.Statuses.{status_of};
-ghost use Rattle.qrcode_c.specs.Written.{text_refusal, IsWrittenRefusal, WritesElements};
+ghost use Rattle.qrcode_c.specs.Written.{checked_refusal, IsWrittenRefusal, WritesElements};
 ghost use Rattle.qrcode_c.specs.Written.{IsTableRefusal, TellsPlace};
 
 use crate::DONE;
@@ -21,14 +21,16 @@ use std::alloc::Global;
 
 /// Writes the symbol of GS1 elements that are written as people write them, such as
 /// `(01)09506000134352(10)ABC123`, as `qrcode_c_elements` does, if the table of identifiers allows
-/// each element (`checked_element_string` of `gs1`).
+/// each element (`checked_element_string` of `gs1`), and they stand together (`check_together`).
 ///
 /// # Errors
 ///
 /// As `qrcode_c_bytes` has them; but after the versions the text is tested, and the status is, in
 /// this order: `InvalidText`; `NoElements`; and of the first element that has a fault the first of
 /// `InvalidIdentifier`, `UnknownIdentifier`, and of its value `EmptyValue`, `WrongLength` (it ends
-/// too early), `ValueTooLong`, `InvalidCharacter`, `WrongCheckDigit`, `WrongValue`.
+/// too early), `ValueTooLong`, `InvalidCharacter`, `WrongCheckDigit`, `WrongValue`; then
+/// `DataTooLong` for a text of more than 11815 bytes, and of the first element that may not stand
+/// beside the others `MissingElement` or `ConflictingElement`.
 #[unsafe(no_mangle)]
 pub extern "C" fn qrcode_c_gs1(
     alloc: Global,
@@ -90,15 +92,14 @@ pub extern "C" fn qrcode_c_gs1_unchecked(
 ///
 /// # Errors
 ///
-/// `InvalidText`, and the statuses of a fault in the order of `qrcode_c_gs1`; `OutOfMemory` if
-/// there is none and an allocation failed.
+/// `InvalidText`, and the statuses of a fault in the order of `qrcode_c_gs1`. Nothing is allocated.
 #[unsafe(no_mangle)]
-pub extern "C" fn qrcode_c_gs1_fault(alloc: Global, text: &[u8], fault: &mut ElementFault) -> i32
-    ensures done { result ≡ DONE → text_refusal true text.now ≡ None }
+pub extern "C" fn qrcode_c_gs1_fault(text: &[u8], fault: &mut ElementFault) -> i32
+    ensures done { result ≡ DONE → checked_refusal text.now ≡ None }
     ensures refusal { result ≢ DONE → IsStatusOf (IsTableRefusal text.now) result }
     ensures told { TellsPlace text.now fault.new }
 {
-    match check_written(alloc, text, fault) {
+    match check_written(text, fault) {
         Ok(()) => DONE,
         Err(refusal) => refusal.status(),
     }

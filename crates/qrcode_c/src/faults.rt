@@ -74,7 +74,7 @@ pub fn table_refusal(error: CheckError) -> Refusal
 }
 
 /// Returns the error that tells why elements may not stand together.
-fn together_refusal(error: TogetherError) -> Refusal
+pub fn together_refusal(error: TogetherError) -> Refusal
     ensures { result ≡ together_refusal error }
 {
     match error {
@@ -156,7 +156,7 @@ fn identifier_number(identifier: usize) -> i32
 }
 
 /// Returns no place: that of a fault of no element.
-fn nowhere() -> ElementFault
+pub fn nowhere() -> ElementFault
     ensures { result ≡ nowhere }
 {
     ElementFault {
@@ -205,7 +205,7 @@ pub fn place_of(error: CheckError) -> ElementFault
 }
 
 /// Returns where the element is that may not stand beside the others.
-fn together_place_of(error: TogetherError) -> ElementFault
+pub fn together_place_of(error: TogetherError) -> ElementFault
     ensures { result ≡ together_place_of error }
 {
     match error {

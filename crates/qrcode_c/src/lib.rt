@@ -155,7 +155,8 @@ pub extern "C" fn qrcode_c_text(
 
 /// Writes the symbol of the GS1 elements that the options ask for, as `qrcode_c_bytes` does, after
 /// FNC1 in the first position. After the versions the bytes are tested, and are `InvalidCharacter`
-/// where one is none of GS1's 82 characters, and no separator 1D (hex) between two elements.
+/// where one is none of GS1's 82 characters, no number sign, and no separator 1D (hex) between two
+/// elements.
 #[unsafe(no_mangle)]
 pub extern "C" fn qrcode_c_elements(
     alloc: Global,

@@ -54,7 +54,7 @@ pub enum Refusal {
     // 23 is that of a content, in `sicklespan.c`.
     /// A value is none that its identifier allows for another reason: a date, a country, ..
     WrongValue = 24,
-    /// The domain of a link is no host name, with a port or without.
+    /// The domain of a link is no host name, with or without a port and a path.
     WrongDomain = 25,
     /// No element is the key of a link.
     NoKey = 26,
@@ -64,9 +64,9 @@ pub enum Refusal {
     WrongQualifier = 28,
     /// The identifier of an element of a link stands once more after it.
     RepeatedElement = 29,
-    /// An element that has to stand beside one of a link is missing.
+    /// An element that has to stand beside another one is missing.
     MissingElement = 30,
-    /// An element of a link may not stand beside another one.
+    /// An element may not stand beside another one.
     ConflictingElement = 31,
     /// No Micro symbol is read as the text.
     UnwritableText = 32,

@@ -44,11 +44,12 @@ fn reads_texts_back(rt: HostRuntime) {
 }
 
 /// Elements, with the number of the version that zint 2.11.1 takes for them at level Q.
-static ELEMENTS: [(&[u8], usize); 4] = [
+static ELEMENTS: [(&[u8], usize); 5] = [
     (b"10ABCD\x1d21DEFG", 1),
     (b"0109506000134352", 1),
     (b"01095060001343521726093010ABC123\x1d21XYZ", 3),
     (b"10AB%12", 1),
+    (b"80100614141#A\x1d80111", 2),
 ];
 
 #[test]
@@ -66,7 +67,7 @@ fn reads_elements_back(rt: HostRuntime) {
 /// does not have, and a separator at either end or after another.
 static NO_ELEMENTS: [(&[u8], usize); 7] = [
     (b"10AB 12", 4),
-    (b"10AB#12", 4),
+    (b"10AB$12", 4),
     (b"10\xc3\x89", 2),
     (b"\x1d10AB", 0),
     (b"10AB\x1d", 4),

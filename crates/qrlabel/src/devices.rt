@@ -2,17 +2,24 @@
 //!
 //! Which file has a name no contract can say: `run` has the contract, for the devices that it
 //! is given.
-ghost use Rattle.std.specs.Prelude.{◌≡◌, ◌⊎◌, IsFalse};
+ghost use Rattle.std.specs.Prelude.{◌≡◌, ◌⊎◌, IsFalse, true};
+ghost use Rattle.label_words.specs.CommandOutcomes.{is_document};
 ghost use Rattle.labels.specs.declared.runs.TheConstants.{LEFT_OUT};
 
 use crate::folder::Folder;
 use crate::progress::Counting;
-use label_words::{Command, Name, Portion, Values, command_of};
+use label_words::{Command, Label, Name, Portion, Values, command_of, is_document};
 use labels::{LEFT_OUT, misused, run};
-use programs::{Fault, FromReader, FromWriter, Sink, Source, WholeFile, report, report_device};
+use programs::{
+    Fault, FromReader, FromWriter, Gathered, Sink, Source, WholeFile, Word, report, report_device,
+    write_word_line,
+};
 use std::alloc::AllocError;
 use std::fs::File;
 use std::io::{BufReader, ErrorKind, IsTerminal, Read, Stderr};
+
+/// Where the numbers of labels are written.
+type Numbers = Gathered<FromWriter<Stderr>>;
 
 /// Does what the words ask for with the devices that they name, and returns the exit status, which
 /// is 1 if lines were left out.
@@ -41,27 +48,56 @@ fn run_command<E: Sink>(rt: &HostRuntime, values: &Values, errors: &mut E) -> u8
     let on_terminal = stdout.is_terminal();
     let mut writer = counting(rt, FromWriter::new(stdout), on_terminal);
     match (command_of(values, on_terminal), values.file(Name::Output)) {
-        (Err(misuse), _) => misused(errors, misuse),
-        (Ok(Command::Label(label)), Some(path)) => match label.portion {
-            Portion::Whole | Portion::Lines | Portion::Split => {
-                into_named(rt, values, path, &mut writer, errors)
-            }
-            Portion::Files(_) | Portion::Parts(_) => {
-                from_input(rt, values, on_terminal, &mut writer, errors)
-            }
-        },
+        (Err(misuse), _) => misused(errors, misuse, values.wrong_value(misuse)),
+        (Ok(Command::Label(label)), Some(path)) if is_one_output(&label) => {
+            into_named(rt, values, &label, path, &mut writer, errors)
+        }
+        (Ok(Command::Label(label)), _) => {
+            let status = from_input(rt, values, on_terminal, &mut writer, errors);
+            paged(&label, &writer, status, errors)
+        }
         (Ok(_), _) => from_input(rt, values, on_terminal, &mut writer, errors),
     }
 }
 
+/// Whether all labels have one output.
+fn is_one_output(label: &Label) -> bool {
+    match label.portion {
+        Portion::Whole | Portion::Lines | Portion::Split => true,
+        Portion::Files(_) | Portion::Parts(_) => false,
+    }
+}
+
+/// Returns the status of `run`, or 1 where the labels of lines are the pages of a document that has
+/// none, which standard error says.
+fn paged<W, E: Sink>(label: &Label, writer: &Counting<W, Numbers>, status: u8, errors: &mut E) -> u8
+    ensures kept { (status ≡ 0 → ⊥) → (status ≡ LEFT_OUT → ⊥) → result ≡ status }
+    ensures done { result ≡ 0 → status ≡ 0 }
+    ensures pages { is_document label.now ≡ true → writer.now.count ≡ 0 → result ≡ 0 → ⊥ }
+{
+    let is_done = status == 0 || status == LEFT_OUT;
+    if !is_done || !is_document(label) || !writer.is_unused() {
+        return status;
+    }
+    if !errors.failed() {
+        let word = Word {
+            text: label.target,
+            in_quotes: false,
+        };
+        let after = &[": no line has a label"];
+        let _ = write_word_line(errors, "qrlabel", &["cannot write "], word, after);
+    }
+    1
+}
+
 /// Returns the place for labels as one that writes on standard error how many there are, if this is
 /// a terminal, and the labels themselves are not written on one.
-fn counting<T>(rt: &HostRuntime, labels: T, on_terminal: bool) -> Counting<T, FromWriter<Stderr>>
+fn counting<T>(rt: &HostRuntime, labels: T, on_terminal: bool) -> Counting<T, Numbers>
     ensures { result.labels ≡ labels }
 {
     let mut stderr = rt.stderr();
     let is_shown = stderr.is_terminal() && !on_terminal;
-    Counting::new(labels, FromWriter::new(stderr), is_shown)
+    Counting::new(labels, Gathered::new(FromWriter::new(stderr)), is_shown)
 }
 
 /// Draws from the text of the words, from the file that they name, or from standard input.
@@ -153,28 +189,37 @@ fn run_from<R: Source, W: Sink, E: Sink>(
 fn into_named<W: Sink, E: Sink>(
     rt: &HostRuntime,
     values: &Values,
+    label: &Label,
     path: &str,
-    stdout: &mut W,
+    stdout: &mut Counting<W, Numbers>,
     errors: &mut E,
 ) -> u8
-    requires stdout_sound { IsFalse (W.state stdout.old).failed }
+    requires stdout_sound { IsFalse (W.state stdout.old.labels).failed }
     requires errors_sound { IsFalse (E.state errors.old).failed }
 {
     match path {
         "/dev/stdout" | "/dev/fd/1" | "/proc/self/fd/1" => {
-            from_input(rt, values, false, stdout, errors)
+            let status = from_input(rt, values, false, stdout, errors);
+            paged(label, stdout, status, errors)
         }
         "/dev/stderr" | "/dev/fd/2" | "/proc/self/fd/2" => {
             let mut stderr = counting(rt, FromWriter::new(rt.stderr()), true);
-            from_input(rt, values, false, &mut stderr, errors)
+            let status = from_input(rt, values, false, &mut stderr, errors);
+            paged(label, &stderr, status, errors)
         }
-        _ => into_file(rt, values, path, errors),
+        _ => into_file(rt, values, label, path, errors),
     }
 }
 
 /// Draws into a file, which has the label when it is whole. What is not a regular file is written
 /// as it is.
-fn into_file<E: Sink>(rt: &HostRuntime, values: &Values, path: &str, errors: &mut E) -> u8
+fn into_file<E: Sink>(
+    rt: &HostRuntime,
+    values: &Values,
+    label: &Label,
+    path: &str,
+    errors: &mut E,
+) -> u8
     requires { IsFalse (E.state errors.old).failed }
 {
     let whole = match WholeFile::create(rt, path, "qrlabel") {
@@ -183,7 +228,8 @@ fn into_file<E: Sink>(rt: &HostRuntime, values: &Values, path: &str, errors: &mu
     };
     let status = {
         let mut writer = counting(rt, FromWriter::new(whole.file()), false);
-        from_input(rt, values, false, &mut writer, errors)
+        let status = from_input(rt, values, false, &mut writer, errors);
+        paged(label, &writer, status, errors)
     };
     close(whole, status, path, errors)
 }

@@ -12,13 +12,15 @@ mod progress;
 use crate::devices::run_on_devices;
 use label_words::read_words;
 use labels::misused;
-use programs::{FromWriter, held_descriptors, lent_words, report, valid_arguments, write_line};
+use programs::{
+    FromWriter, Gathered, held_descriptors, lent_words, report, valid_arguments, write_line,
+};
 use std::process::ExitCode;
 
 /// Runs with the arguments, the input and the outputs of the process.
 fn main(rt: HostRuntime) -> ExitCode {
     let _held = held_descriptors(&rt);
-    let mut errors = FromWriter::new(rt.stderr());
+    let mut errors = Gathered::new(FromWriter::new(rt.stderr()));
     let args = match valid_arguments(&rt) {
         Ok(Some(args)) => args,
         Ok(None) => {
@@ -33,6 +35,6 @@ fn main(rt: HostRuntime) -> ExitCode {
     };
     ExitCode::from(match read_words(&words) {
         Ok(values) => run_on_devices(&rt, &values, &mut errors),
-        Err(misuse) => misused(&mut errors, misuse),
+        Err(misuse) => misused(&mut errors, misuse, None),
     })
 }

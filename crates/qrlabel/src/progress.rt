@@ -1,9 +1,9 @@
 //! The number of labels, written while they are drawn.
-ghost use Rattle.std.specs.Prelude.{◌≡◌};
+ghost use Rattle.std.specs.Prelude.{◌≡◌, ◌==◌};
 
 use itoa::Buffer;
 use labels::Files;
-use programs::{Sink, write_all};
+use programs::{Sink, push_all, write_all};
 use std::io::ErrorKind;
 
 /// The number is written after each hundredth label.
@@ -31,6 +31,13 @@ impl<W, E: Sink> Counting<W, E> {
         }
     }
 
+    /// Whether there was no label so far.
+    pub fn is_unused(&self) -> bool
+        ensures { result ≡ (self.now.count == 0) }
+    {
+        self.count == 0
+    }
+
     /// Counts one label more, and writes each hundredth number. The next one, or an error, is
     /// written over it.
     fn count_one(&mut self)
@@ -41,7 +48,7 @@ impl<W, E: Sink> Counting<W, E> {
             return;
         }
         let mut buffer = Buffer::new();
-        if write_all(&mut self.numbers, buffer.format(self.count).as_bytes()).is_ok() {
+        if push_all(&mut self.numbers, buffer.format(self.count).as_bytes()).is_ok() {
             let _ = write_all(&mut self.numbers, b" labels\r");
         }
     }

@@ -1,5 +1,6 @@
 pub mod CaptionLemmas
 pub mod DetailsLemmas
+pub mod MarkLemmas
 pub mod PartLemmas
 pub mod ShownLemmas
 pub mod StopLemmas

@@ -99,11 +99,11 @@ IsReason content options bytes stop =
 not_written : (checks : Bool) (options : SymbolOptions) (bytes : List ℕ) (stop : Stop) → length bytes ≤ LONGEST_DATA → is_bracketed bytes ≡ true →
     AreNotWritten checks bytes stop → IsReason (gs1_content checks) options bytes stop
 not_written true options bytes (NotAllowed error) short bracketed h =
-    (refl, inr (short, inl (bracketed, inl h)), (λ e. grind (arith, e)), (λ t e. grind (arith, e)))
+    (refl, inr (short, inl (inl (bracketed, inl h))), (λ e. grind (arith, e)), (λ t e. grind (arith, e)))
 not_written false options bytes (Elements at) short bracketed h =
     (refl, inr (short, inl (bracketed, inl h)), (λ e. grind (arith, e)), (λ t e. grind (arith, e)))
 not_written true options bytes (Fault (Symbol e)) short bracketed h =
-    (no_utf8_short bytes e h, inr (short, inl (bracketed, inl h)), (λ e. grind (arith, e)), (λ t e. grind (arith, e)))
+    (no_utf8_short bytes e h, inr (short, inl (inl (bracketed, inl h))), (λ e. grind (arith, e)), (λ t e. grind (arith, e)))
 not_written false options bytes (Fault (Symbol e)) short bracketed h =
     (no_utf8_short bytes e h, inr (short, inl (bracketed, inl h)), (λ e. grind (arith, e)), (λ t e. grind (arith, e)))
 not_written true options bytes (Elements at) short bracketed h = absurd h

@@ -1,7 +1,7 @@
 -- The symbol of a label, by what its bytes are.
 use Rattle.std.specs.Prelude.{◌≡◌, ◌⊎◌, ℕ, ◌<◌, ◌≤◌, nat_lt, ◌==◌, Bool, true, false, ◌&&◌, List, length}
-use Rattle.std.specs.Prelude.{slice_index, slice_get, drop, None, Some, if◌then◌else◌, chars}
-use Rattle.std.specs.List.{list_all}
+use Rattle.std.specs.Prelude.{slice_index, slice_get, drop, None, Some, if◌then◌else◌, chars, ⊤}
+use Rattle.std.specs.List.{list_all, list_any}
 use Rattle.std.specs.Io.BufRead.{ends_with_byte, strip_last}
 use Rattle.std.specs.Str.{IsUtf8, IsValidUpTo}
 use Rattle.byte_symbols.specs.ByteHeadline.{IsAsAskedWithoutKanji, IsRefusedWithoutKanji}
@@ -9,9 +9,12 @@ use Rattle.gs1.specs.Checked.{AreAllowedElements, IsRefusedStringByTable}
 use Rattle.gs1.specs.Elements.{written_elements, text_fault, IsRefusedText}
 use Rattle.gs1_links.specs.LinkReader.{ReadsLink}
 use Rattle.gs1_links.specs.Links.{link_of, link_error, IsRefusedLink, linked}
+use Rattle.gs1.specs.Read.{WritesFirst, scanned}
 use Rattle.gs1.specs.Reader.{FindsOnly}
 use Rattle.gs1.specs.Strings.{AreFaultless, IsRefusedString}
+use Rattle.gs1.specs.Together.{text_conflict}
 use Rattle.gs1.specs.Values.{text_error, IsRefusedByTable}
+use Rattle.gs1_links.specs.declared.link_error.LinkError.TheVariants.{Together}
 use Rattle.programs.specs.declared.Fault.TheVariants.{Symbol}
 use Rattle.qrcode_base.specs.declared.symbols.TheConstants.{LONGEST_DATA}
 use Rattle.qrcode_bits.specs.Frame.{front_of, no_front}
@@ -63,6 +66,17 @@ abbrev pub IsContent : Bool → List ℕ → List ℕ → Type 0
 IsContent trims bytes content =
     ((trims ≡ true) × IsUtf8 bytes × (content ≡ without_newline (without_mark bytes)))
     ⊎ (((trims ≡ false) ⊎ (IsUtf8 bytes → ⊥)) × (content ≡ bytes))
+
+-- What of a content is drawn: of GS1 elements that a scanner gives, what stands between its marks.
+abbrev pub without_marks : Content → List ℕ → List ℕ
+without_marks Gs1 bytes = if is_bracketed bytes then bytes else scanned bytes
+without_marks UncheckedGs1 bytes = if is_bracketed bytes then bytes else scanned bytes
+without_marks content bytes = bytes
+
+-- What of the bytes a label shows.
+abbrev pub IsShownOf : (trims : Bool) → Content → List ℕ → List ℕ → Type 0
+IsShownOf trims kind bytes shown =
+    (content : List ℕ) × IsContent trims bytes content × (shown ≡ without_marks kind content)
 
 -- ---- Text
 
@@ -176,6 +190,40 @@ IsGs1Stop checks options bytes stop =
     ((is_bracketed bytes ≡ true) × IsBracketedStop checks options bytes stop)
     ⊎ ((is_bracketed bytes ≡ false) × IsStringStop checks options bytes stop)
 
+-- The text of elements: as it is given in brackets, or of those that a reader finds first.
+abbrev pub IsTextOfBytes : List ℕ → List ℕ → Type 0
+IsTextOfBytes bytes text =
+    ((is_bracketed bytes ≡ true) × (text ≡ bytes))
+    ⊎ ((is_bracketed bytes ≡ false) × WritesFirst bytes text)
+
+-- An opening bracket stands in the bytes: in a value, if they do not begin with one.
+abbrev pub has_bracket : List ℕ → Bool
+has_bracket bytes = list_any (λ byte. byte == 40) bytes
+
+-- The elements may stand together. Of an element string with an opening bracket in a value, which
+-- no text in brackets can write, this is not tested.
+abbrev pub StandTogether : List ℕ → Type 0
+StandTogether bytes =
+    ((is_bracketed bytes ≡ false) × (has_bracket bytes ≡ true))
+    ⊎ ((text : List ℕ) × IsTextOfBytes bytes text × (IsUtf8 text → text_conflict text ≡ None))
+
+-- The elements may not stand together, for this reason, or memory ran out.
+abbrev pub IsApart : List ℕ → Stop → Type 0
+IsApart bytes (NoLink (Together error)) =
+    (text : List ℕ) × IsTextOfBytes bytes text × (text_conflict text ≡ Some error)
+IsApart bytes (Fault (Symbol OutOfMemory)) = ⊤
+IsApart bytes _ = ⊥
+
+-- The symbol of elements that the table allows, and that may stand together.
+abbrev pub IsCheckedSymbol : SymbolOptions → List ℕ → List Color → Type 0
+IsCheckedSymbol options bytes grid = IsGs1Symbol true options bytes grid × StandTogether bytes
+
+-- Why there is none.
+abbrev pub IsCheckedStop : SymbolOptions → List ℕ → Stop → Type 0
+IsCheckedStop options bytes stop =
+    IsGs1Stop true options bytes stop
+    ⊎ (IsApart bytes stop × ((grid : List Color) × IsGs1Symbol true options bytes grid))
+
 -- The link of the elements that a text writes, in which a reader of links finds exactly these.
 pub record IsLink (domain text link : List ℕ) : Type 0 where
   pub utf8 : IsUtf8 text
@@ -230,7 +278,7 @@ IsSymbolAs Auto options bytes grid = IsAutoSymbol options bytes grid
 IsSymbolAs Text options bytes grid = IsText options bytes grid
 IsSymbolAs Bytes options bytes grid = IsAsAsked options no_front bytes grid
 IsSymbolAs BytesWithoutKanji options bytes grid = IsAsAskedWithoutKanji options bytes grid
-IsSymbolAs Gs1 options bytes grid = IsGs1Symbol true options bytes grid
+IsSymbolAs Gs1 options bytes grid = IsCheckedSymbol options bytes grid
 IsSymbolAs UncheckedGs1 options bytes grid = IsGs1Symbol false options bytes grid
 IsSymbolAs Link options bytes grid = IsAsAsked options no_front bytes grid
 IsSymbolAs Micro options bytes grid = IsMicroText options.level bytes grid
@@ -241,7 +289,7 @@ IsShortStop Auto options bytes = IsErrorIn (IsAutoRefusal options bytes)
 IsShortStop Text options bytes = IsErrorIn (IsUtf8Refusal options bytes)
 IsShortStop Bytes options bytes = IsErrorIn (IsOptionsRefusal options no_front bytes)
 IsShortStop BytesWithoutKanji options bytes = IsErrorIn (IsRefusedWithoutKanji options bytes)
-IsShortStop Gs1 options bytes = IsGs1Stop true options bytes
+IsShortStop Gs1 options bytes = IsCheckedStop options bytes
 IsShortStop UncheckedGs1 options bytes = IsGs1Stop false options bytes
 IsShortStop Link options bytes = IsErrorIn (IsOptionsRefusal options no_front bytes)
 IsShortStop Micro options bytes = IsMicroTextStop options.level bytes

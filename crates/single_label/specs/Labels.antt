@@ -12,7 +12,7 @@ use Rattle.picture_settings.specs.declared.draw_options.DrawOptions.{DrawOptions
 use Rattle.single_label.specs.Captions.{IsCaption}
 use Rattle.single_label.specs.Colors.{in_colors}
 use Rattle.label_words.specs.Choices.{is_link}
-use Rattle.single_label.specs.Contents.{IsContent, IsSymbolAs, IsStopAs, IsLink, IsLinkStop, is_too_long}
+use Rattle.single_label.specs.Contents.{IsShownOf, IsSymbolAs, IsStopAs, IsLink, IsLinkStop, is_too_long}
 use Rattle.single_label.specs.Rooms.{IsTooLongAs, IsTooLongForAny}
 use Rattle.single_label.specs.Details.{AreDetails}
 use Rattle.single_label.specs.Turns.{turned}
@@ -92,7 +92,7 @@ IsSaid label text content =
 -- elements that this writes.
 pub record ShowsLabel (label : Label) (options : DrawOptions) (bytes drawing : List ℕ) : Type 0 where
   pub text : List ℕ
-  pub text_is : IsContent label.trims bytes text
+  pub text_is : IsShownOf label.trims label.content bytes text
   pub data_is : IsLabelData label text
   pub content : List ℕ
   pub said : IsSaid label text content
@@ -127,7 +127,7 @@ IsTextStop label text stop =
 pub record IsRefusedContent (label : Label) (bytes : List ℕ) (stop : Stop) : Type 0 where
   pub short : length bytes ≤ LONGEST_DATA
   pub text : List ℕ
-  pub text_is : IsContent label.trims bytes text
+  pub text_is : IsShownOf label.trims label.content bytes text
   pub stopped : IsTextStop label text stop
 
 -- There are more bytes than one label takes.

@@ -2,7 +2,6 @@
 use Rattle.std.specs.Prelude.{◌≡◌, ◌⊎◌, ℕ, true, false, List, Some}
 use Rattle.std.specs.Str.{IsUtf8}
 use Rattle.gs1.specs.Elements.{Element, bracketed}
-use Rattle.gs1.specs.Read.{WritesFirst}
 use Rattle.gs1_links.specs.LinkFaults.{reading_fault}
 use Rattle.gs1_links.specs.LinkReader.{ReadsLink}
 use Rattle.gs1_links.specs.Links.{link_error}
@@ -13,7 +12,7 @@ use Rattle.qrcode_core.specs.declared.options.SymbolOptions.{SymbolOptions}
 use Rattle.label_words.specs.declared.command.Content.{Content}
 use Rattle.label_words.specs.declared.command.Content.TheVariants.{Gs1, Link}
 use Rattle.label_words.specs.declared.command.Label.{Label}
-use Rattle.single_label.specs.Contents.{is_bracketed, IsSymbolAs, IsStopAs, IsLink, is_too_long, is_memory}
+use Rattle.single_label.specs.Contents.{IsTextOfBytes, IsSymbolAs, IsStopAs, IsLink, is_too_long, is_memory}
 use Rattle.single_label.specs.declared.other_way.Outcome.{Outcome}
 use Rattle.single_label.specs.declared.other_way.Outcome.TheVariants.{Drawn, TooLong, Nothing}
 use Rattle.single_label.specs.declared.stop.Stop.{Stop}
@@ -30,12 +29,6 @@ IsOtherOutcome content options bytes Nothing =
     × (is_memory stop ≡ false)
 
 -- ---- Elements as a link
-
--- The text of elements: as it is given in brackets, or of those that a reader finds first.
-abbrev pub IsTextOfBytes : List ℕ → List ℕ → Type 0
-IsTextOfBytes bytes text =
-    ((is_bracketed bytes ≡ true) × (text ≡ bytes))
-    ⊎ ((is_bracketed bytes ≡ false) × WritesFirst bytes text)
 
 -- There is no link of a text.
 abbrev pub HasNoLink : (domain : List ℕ) → List ℕ → Type 0

@@ -52,8 +52,8 @@ abbrev pub IsTextFault : SymbolOptions → List ℕ → QrError → Type 0
 IsTextFault options message error =
     IsNoUtf8 message error ⊎ (IsUtf8 message × IsSequenceFault TextFront options message error)
 
--- The grids are the smallest symbols of the fewest parts of a text in UTF-8, in order. Each part is
--- written in whichever way takes the fewest bits.
+-- The grids are the smallest symbols of the fewest parts of a text in UTF-8, in order, in a manner
+-- in which readers that join them and readers that take each by itself find one text.
 pub record IsSmallestSequence (options : SymbolOptions) (text : List ℕ)
     (grids : List (List Color)) : Type 0 where
   pub cuts : List ℕ

@@ -10,8 +10,10 @@ ghost use Rattle.single_label.specs.Contents.{AreSound, AreNotSound, IsLink, IsL
 ghost use Rattle.single_label.specs.Contents.{without_mark, without_newline, IsContent};
 ghost use Rattle.single_label.specs.Contents.{IsMicroText, IsMicroTextStop, HasText};
 ghost use Rattle.single_label.specs.Contents.{IsStringSymbol, IsStringStop};
+ghost use Rattle.single_label.specs.Contents.{IsCheckedSymbol, IsCheckedStop};
 ghost use Rattle.std.specs.Io.BufRead.{strip_last};
 
+use crate::apart::check_apart;
 use crate::element::{read_stop, written_stop};
 use crate::stop::Stop;
 use byte_symbols::bytes_without_kanji;
@@ -46,7 +48,7 @@ pub fn content_symbol(
         Content::Text => Ok(text_symbol(alloc, options, bytes)?),
         Content::Bytes | Content::Link => Ok(Symbol::bytes_with(alloc, bytes, options)?),
         Content::BytesWithoutKanji => Ok(bytes_without_kanji(alloc, bytes, options)?),
-        Content::Gs1 => gs1_symbol(alloc, true, options, bytes),
+        Content::Gs1 => checked_symbol(alloc, options, bytes),
         Content::UncheckedGs1 => gs1_symbol(alloc, false, options, bytes),
         Content::Micro => micro_symbol(alloc, options.level, bytes),
         Content::MicroBytes => Ok(Symbol::micro(alloc, bytes, options.level)?),
@@ -202,6 +204,18 @@ fn gs1_symbol(
     } else {
         string_symbol(alloc, checks, options, bytes)
     }
+}
+
+/// Returns the symbol of GS1 elements that the table allows, and that may stand together. It fails
+/// as `gs1_symbol`, and then as `check_apart`.
+fn checked_symbol(alloc: Global, options: &SymbolOptions, bytes: &[u8]) -> Result<Symbol, Stop>
+    ensures symbol { IfOk result (λ symbol.
+        IsCheckedSymbol options.now bytes.now symbol.modules) }
+    ensures refusal { IfErr result (IsCheckedStop options.now bytes.now) }
+{
+    let symbol = gs1_symbol(alloc, true, options, bytes)?;
+    check_apart(alloc, bytes)?;
+    Ok(symbol)
 }
 
 /// Checks an element string, by the table or as `check_element_string` does.

@@ -11,9 +11,10 @@ ghost use Rattle.label_words.specs.Choices.{is_link};
 ghost use Rattle.single_label.specs.Contents.{IsLink, IsLinkStop};
 ghost use Rattle.single_label.specs.Details.{IsDetailsStop};
 
+use crate::apart::shown_of;
 use crate::caption::{caption_of, text_in};
 use crate::colors::in_colors;
-use crate::content::{content_of, content_symbol, link_of};
+use crate::content::{content_symbol, link_of};
 use crate::details::symbol_text;
 use crate::room::{too_long_at_level, too_long_for_any};
 use crate::shown::{Said, Shown};
@@ -46,7 +47,7 @@ pub fn label_bytes<S: Shown>(
     if bytes.len() > LONGEST_DATA {
         return Err(Stop::TooLong(too_long_for_any(label, bytes)));
     }
-    let content = content_of(label.trims, bytes);
+    let content = shown_of(label.trims, label.content, bytes);
     if content.is_empty() && !label.allow_empty {
         return Err(Stop::Empty);
     }

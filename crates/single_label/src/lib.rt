@@ -13,6 +13,7 @@
 //! ```
 #![tactic(auto)]
 
+mod apart;
 mod caption;
 mod colors;
 mod content;

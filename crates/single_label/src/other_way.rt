@@ -4,16 +4,16 @@ ghost use Rattle.std.specs.Option.{option_copied};
 ghost use Rattle.std.specs.String.{string_bytes};
 ghost use Rattle.gs1.specs.Elements.{bracketed};
 ghost use Rattle.single_label.specs.Contents.{is_memory};
-ghost use Rattle.single_label.specs.OtherWays.{IsOtherOutcome, IsTextOfBytes, IsLinkOutcome};
+ghost use Rattle.single_label.specs.OtherWays.{IsOtherOutcome, IsLinkOutcome};
 ghost use Rattle.single_label.specs.OtherWays.{IsElementsOutcome};
 ghost use Rattle.single_label.specs.Details.{IsAsElementsText, IsAsLinkText, IsOtherText};
 ghost use Rattle.single_label.specs.Details.{IsOtherWayText, outcome_text};
 
-use crate::content::{content_symbol, is_bracketed};
+use crate::apart::elements_text;
+use crate::content::content_symbol;
 use crate::details::push_version;
 use crate::label::is_too_long;
 use crate::stop::Stop;
-use gs1::string_brackets;
 use gs1_links::{LinkElement, LinkError, LinkReadError, digital_link, elements_of_link};
 use label_words::{Content, Label};
 use programs::Fault;
@@ -62,25 +62,12 @@ fn outcome_of(
     }
 }
 
-/// Returns the text of elements: as it is given in brackets, or of those that a reader finds first
-/// in an element string. It fails only for lack of memory.
-fn text_of(alloc: Global, bytes: &[u8]) -> Result<Vec<u8>, AllocError>
-    ensures { IfOk result (λ text. IsTextOfBytes bytes.now text.items) }
-{
-    if !is_bracketed(bytes) {
-        return string_brackets(alloc, bytes);
-    }
-    let mut text = Vec::new(alloc);
-    text.extend_from_slice(bytes)?;
-    Ok(text)
-}
-
 /// Returns how the symbol of the link of elements comes out, at the domain of the label. It fails
 /// only for lack of memory.
 fn as_link(alloc: Global, label: &Label, bytes: &[u8]) -> Result<Outcome, AllocError>
     ensures { IfOk result (IsLinkOutcome label.now bytes.now) }
 {
-    let text = text_of(alloc, bytes)?;
+    let text = elements_text(alloc, bytes)?;
     let Ok(text) = str::from_utf8(&text) else {
         return Ok(Outcome::Nothing);
     };

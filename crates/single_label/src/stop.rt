@@ -19,7 +19,7 @@ pub enum Stop {
     Elements(ElementStop),
     /// The table of identifiers does not allow the GS1 elements.
     NotAllowed(CheckError),
-    /// There is no link of the GS1 elements.
+    /// There is no link of the GS1 elements, or they may not stand together.
     NoLink(LinkError),
     /// The input has no bytes.
     Empty,

@@ -13,9 +13,10 @@ use Rattle.qrcode_bits.specs.declared.bits.front.Content.TheVariants.{Elements, 
 use Rattle.qrcode_bits.proofs.Cutting.{end_place, place_within, start_place}
 use Rattle.qrcode_core.specs.Sequence.{parts_from}
 use Rattle.qrcode_core.proofs.BestCuts.{first_place, is_place, last_place, places_order, some_place}
+use Rattle.text_plans.specs.declared.rules.Manner.{Manner}
 use Rattle.text_parts.specs.TextParts.{IsTextPartTooLong}
 use Rattle.text_parts.specs.TextParts.{IsSomeTextPartTooLong}
-use Rattle.text_cuts.specs.TextCuts.{AreBestTextCuts, AreFittingTextCuts, IsPartFromTooLong}
+use Rattle.text_cuts.specs.TextCuts.{AreFewestIn, AreFittingTextCuts, IsPartFromTooLong}
 use Rattle.text_cuts.proofs.Slices.{chars_join, many_too_long, text_within}
 
 text_cut : Text ≢ Elements
@@ -25,37 +26,37 @@ rest_whole : (from : ℕ) (message : List ℕ) → slice_range message from (len
 rest_whole from message = grind (arith, common_steps, take_all, length-drop)
 
 -- What is known before the part that begins at the place of index `first`, after `n` cuts.
-pub record AreCutsUpTo (message : List ℕ) (level : EcLevel) (limit : ℕ) (places : List ℕ) (first n : ℕ) (cuts : List ℕ) : Type 0 where
+pub record AreCutsUpTo (manner : Manner) (message : List ℕ) (level : EcLevel) (limit : ℕ) (places : List ℕ) (first n : ℕ) (cuts : List ℕ) : Type 0 where
   pub count : length cuts ≡ n
   pub inside : first < length places
-  pub before : (ending : List ℕ) → AreFittingTextCuts message level limit (slice_index_or places first 0) ending →
-      AreFittingTextCuts message level limit 0 (cuts ++ ending)
-  pub others : (more : List ℕ) → AreFittingTextCuts message level limit 0 more →
-      (rest : List ℕ) × AreFittingTextCuts message level limit (slice_index_or places first 0) rest × (length rest + n ≤ length more)
+  pub before : (ending : List ℕ) → AreFittingTextCuts manner message level limit (slice_index_or places first 0) ending →
+      AreFittingTextCuts manner message level limit 0 (cuts ++ ending)
+  pub others : (more : List ℕ) → AreFittingTextCuts manner message level limit 0 more →
+      (rest : List ℕ) × AreFittingTextCuts manner message level limit (slice_index_or places first 0) rest × (length rest + n ≤ length more)
 
-module _ (message : List ℕ) (level : EcLevel) (limit : ℕ) (utf8 : IsUtf8 message) where
+module _ (manner : Manner) (message : List ℕ) (level : EcLevel) (limit : ℕ) (utf8 : IsUtf8 message) where
   abbrev TooLong : ℕ → ℕ → Type 0
-  TooLong = IsPartFromTooLong message level limit
+  TooLong = IsPartFromTooLong manner message level limit
 
   abbrev Fitting : ℕ → List ℕ → Type 0
-  Fitting = AreFittingTextCuts message level limit
+  Fitting = AreFittingTextCuts manner message level limit
 
   pub later_too_long : (p r s : ℕ) → p ≤ r → r ≤ s → IsCutPlace Text message p → IsCutPlace Text message r → TooLong p r → TooLong p s
-  later_too_long p r s h k a b = text_within message utf8 level limit p p r s (omega arith) h k a a b
+  later_too_long p r s h k a b = text_within message utf8 manner level limit p p r s (omega arith) h k a a b
 
   -- cuts from a place on, from a later place on
   later_cuts : (d e : ℕ) → d ≤ e → IsCutPlace Text message d → IsCutPlace Text message e → (cuts : List ℕ) → Fitting d cuts →
       (rest : List ℕ) × Fitting e rest × (length rest ≤ length cuts)
   later_cuts d e h a b [] fit =
       let most = place_within Text message e b in let end = end_place Text message text_cut in
-      ([], (λ long. fit (text_within message utf8 level limit d e (length message) (length message) h most (omega arith) a b end long)), omega arith)
+      ([], (λ long. fit (text_within message utf8 manner level limit d e (length message) (length message) h most (omega arith) a b end long)), omega arith)
   later_cuts d e h a b (x ∷ xs) fit = elim (cases_lt e x) [
     | inl less ↦ (
       x ∷ xs,
       (
         omega (arith, less),
         fit.1,
-        (λ long. fit.2 (text_within message utf8 level limit d e x x h (omega (arith, less)) (omega arith) a b fit.1 long)),
+        (λ long. fit.2 (text_within message utf8 manner level limit d e x x h (omega (arith, less)) (omega arith) a b fit.1 long)),
         fit.3,
       ),
       omega arith,
@@ -67,7 +68,7 @@ module _ (message : List ℕ) (level : EcLevel) (limit : ℕ) (utf8 : IsUtf8 mes
     abbrev at : ℕ → ℕ
     at i = slice_index_or places i 0
 
-    pub nothing_cut : AreCutsUpTo message level limit places 0 0 []
+    pub nothing_cut : AreCutsUpTo manner message level limit places 0 0 []
     nothing_cut =
         let zero_is = first_place Text message places are text_cut in
         record {
@@ -77,7 +78,7 @@ module _ (message : List ℕ) (level : EcLevel) (limit : ℕ) (utf8 : IsUtf8 mes
           others = λ more h. (more, subst (λ p. Fitting p more) (sym zero_is) h, omega arith);
         }
 
-    module _ (first last n : ℕ) (cuts : List ℕ) (known : AreCutsUpTo message level limit places first n cuts) (from : first ≤ last)
+    module _ (first last n : ℕ) (cuts : List ℕ) (known : AreCutsUpTo manner message level limit places first n cuts) (from : first ≤ last)
         (inside : last < length places) (fits : TooLong (at first) (at last) → ⊥)
         (longest : (later : ℕ) → last < later → later < length places → TooLong (at first) (at later)) where
       -- other cuts have one more cut up to the end of the longest part
@@ -96,7 +97,7 @@ module _ (message : List ℕ) (level : EcLevel) (limit : ℕ) (utf8 : IsUtf8 mes
                 (is_place Text message places are last inside) xs fit.3 in (w.0, w.1, omega (arith, w.2)))
           ]
 
-      pub one_cut : last + 1 < length places → AreCutsUpTo message level limit places last (n + 1) (cuts ++ at last ∷ [])
+      pub one_cut : last + 1 < length places → AreCutsUpTo manner message level limit places last (n + 1) (cuts ++ at last ∷ [])
       one_cut before_end = record {
         count = length-append cuts (at last ∷ []) ∙ ap (λ k. k + 1) known.count;
         inside = inside;
@@ -106,7 +107,7 @@ module _ (message : List ℕ) (level : EcLevel) (limit : ℕ) (utf8 : IsUtf8 mes
         others = λ more h. (let w = known.others more h in let r = one_less before_end w.0 w.1 in (r.0, r.1, omega (arith, w.2, r.2)));
       }
 
-      pub all_cut : n < 16 → last + 1 ≡ length places → AreBestTextCuts message level limit cuts
+      pub all_cut : n < 16 → last + 1 ≡ length places → AreFewestIn manner message level limit cuts
       all_cut few end =
           let is = last_place Text message places are text_cut last end in
           record {
@@ -116,7 +117,7 @@ module _ (message : List ℕ) (level : EcLevel) (limit : ℕ) (utf8 : IsUtf8 mes
           }
 
     -- A part that takes nothing, where places are left, has no cuts after it.
-    module _ (first last n : ℕ) (cuts : List ℕ) (known : AreCutsUpTo message level limit places first n cuts) (same : last ≡ first)
+    module _ (first last n : ℕ) (cuts : List ℕ) (known : AreCutsUpTo manner message level limit places first n cuts) (same : last ≡ first)
         (longest : (later : ℕ) → last < later → later < length places → TooLong (at first) (at later))
         (before_end : last + 1 < length places) where
       nothing_fits : (more : List ℕ) → Fitting (at first) more → ⊥
@@ -135,7 +136,7 @@ module _ (message : List ℕ) (level : EcLevel) (limit : ℕ) (utf8 : IsUtf8 mes
       pub none_at_all : (more : List ℕ) → Fitting 0 more → 16 ≤ length more
       none_at_all more h = let w = known.others more h in absurd (nothing_fits w.0 w.1)
 
-    pub none_left : (first n : ℕ) (cuts : List ℕ) → AreCutsUpTo message level limit places first n cuts → 16 ≤ n → (more : List ℕ) → Fitting 0 more →
+    pub none_left : (first n : ℕ) (cuts : List ℕ) → AreCutsUpTo manner message level limit places first n cuts → 16 ≤ n → (more : List ℕ) → Fitting 0 more →
         16 ≤ length more
     none_left first n cuts known many more h = let w = known.others more h in omega (arith, w.2, many)
 
@@ -143,7 +144,7 @@ module _ (message : List ℕ) (level : EcLevel) (limit : ℕ) (utf8 : IsUtf8 mes
 
   short_part : (p q : ℕ) → (TooLong p q → ⊥) → length (chars (slice_range message p q)) ≤ 7089
   short_part p q fit = elim (cases_lt 7089 (length (chars (slice_range message p q)))) [
-    | inl more ↦ absurd (fit (many_too_long (chars (slice_range message p q)) level limit more))
+    | inl more ↦ absurd (fit (many_too_long manner (chars (slice_range message p q)) level limit more))
     | inr few ↦ few
   ]
 
@@ -171,21 +172,21 @@ module _ (message : List ℕ) (level : EcLevel) (limit : ℕ) (utf8 : IsUtf8 mes
 
 -- ---- Best cuts are cuts that a sequence takes
 
-module _ (message : List ℕ) (level : EcLevel) (limit : ℕ) where
-  pub cuts_within : (from : ℕ) (cuts : List ℕ) → AreFittingTextCuts message level limit from cuts → All (λ cut. IsCutPlace Text message cut) cuts
+module _ (manner : Manner) (message : List ℕ) (level : EcLevel) (limit : ℕ) where
+  pub cuts_within : (from : ℕ) (cuts : List ℕ) → AreFittingTextCuts manner message level limit from cuts → All (λ cut. IsCutPlace Text message cut) cuts
   cuts_within from [] h = All-nil (λ cut. IsCutPlace Text message cut)
   cuts_within from (x ∷ xs) h = All-cons (λ cut. IsCutPlace Text message cut) x xs h.1 (cuts_within x xs h.3)
 
-  pub cuts_short : (from : ℕ) (cuts : List ℕ) → AreFittingTextCuts message level limit from cuts → All (λ cut. cut ≤ length message) cuts
+  pub cuts_short : (from : ℕ) (cuts : List ℕ) → AreFittingTextCuts manner message level limit from cuts → All (λ cut. cut ≤ length message) cuts
   cuts_short from [] h = All-nil (λ cut. cut ≤ length message)
   cuts_short from (x ∷ xs) h = All-cons (λ cut. cut ≤ length message) x xs (place_within Text message x h.1) (cuts_short x xs h.3)
 
-  at_least : (from : ℕ) (cuts : List ℕ) → AreFittingTextCuts message level limit from cuts → (i d : ℕ) → i < length cuts → from ≤ get_or cuts i d
+  at_least : (from : ℕ) (cuts : List ℕ) → AreFittingTextCuts manner message level limit from cuts → (i d : ℕ) → i < length cuts → from ≤ get_or cuts i d
   at_least from [] h i d k = absurd (omega (arith, k))
   at_least from (x ∷ xs) h zero d k = h.0
   at_least from (x ∷ xs) h (suc i) d k = let w = at_least x xs h.3 i d (omega (arith, k)) in omega (arith, w, h.0)
 
-  pub cuts_ordered : (from : ℕ) (cuts : List ℕ) → AreFittingTextCuts message level limit from cuts → (i j d : ℕ) → i ≤ j → j < length cuts →
+  pub cuts_ordered : (from : ℕ) (cuts : List ℕ) → AreFittingTextCuts manner message level limit from cuts → (i j d : ℕ) → i ≤ j → j < length cuts →
       get_or cuts i d ≤ get_or cuts j d
   cuts_ordered from [] h i j d k l = absurd (omega (arith, l))
   cuts_ordered from (x ∷ xs) h zero zero d k l = omega arith
@@ -193,12 +194,12 @@ module _ (message : List ℕ) (level : EcLevel) (limit : ℕ) where
   cuts_ordered from (x ∷ xs) h (suc i) zero d k l = absurd (omega (arith, k))
   cuts_ordered from (x ∷ xs) h (suc i) (suc j) d k l = cuts_ordered x xs h.3 i j d (omega (arith, k)) (omega (arith, l))
 
-  parts_fit : (from : ℕ) (cuts : List ℕ) → AreFittingTextCuts message level limit from cuts → (i : ℕ) → i < length cuts + 1 →
-      IsTextPartTooLong (chars (slice_index_or (parts_from from cuts message) i [])) level limit → ⊥
-  parts_fit from [] h zero k none = h (subst (λ z. IsTextPartTooLong (chars z) level limit) (sym (rest_whole from message)) none)
+  parts_fit : (from : ℕ) (cuts : List ℕ) → AreFittingTextCuts manner message level limit from cuts → (i : ℕ) → i < length cuts + 1 →
+      IsTextPartTooLong manner (chars (slice_index_or (parts_from from cuts message) i [])) level limit → ⊥
+  parts_fit from [] h zero k none = h (subst (λ z. IsTextPartTooLong manner (chars z) level limit) (sym (rest_whole from message)) none)
   parts_fit from [] h (suc i) k none = omega (arith, k)
   parts_fit from (x ∷ xs) h zero k none = h.2 none
   parts_fit from (x ∷ xs) h (suc i) k none = parts_fit x xs h.3 i (omega (arith, k)) none
 
-  pub none_past : (cuts : List ℕ) → AreFittingTextCuts message level limit 0 cuts → IsSomeTextPartTooLong message cuts level limit → ⊥
-  none_past cuts h long = parts_fit 0 cuts h long.0 long.1 long.2
+  pub none_past : (cuts : List ℕ) → AreFittingTextCuts manner message level limit 0 cuts → IsSomeTextPartTooLong message cuts level limit → ⊥
+  none_past cuts h long = let w = long manner in parts_fit 0 cuts h w.0 w.1 w.2

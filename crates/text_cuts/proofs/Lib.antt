@@ -2,3 +2,4 @@ pub mod Splits
 pub mod Shorter
 pub mod Slices
 pub mod FewestCuts
+pub mod BestCuts

@@ -9,8 +9,10 @@ use Rattle.qrcode_base.specs.declared.types.Mode.TheVariants.{Numeric, Alphanume
 use Rattle.qrcode_base.specs.declared.types.Version.{Version}
 use Rattle.qrcode_base.specs.declared.types.Version.TheVariants.{Normal, Micro}
 use Rattle.text_reading.specs.Reading.{Part, designator, segment, is_known, has_kanji, has_no_designator, read_parts, read_segment}
-use Rattle.text_plans.specs.Costs.{AreTextParts, HasPart, bits_of_parts}
-use Rattle.text_plans.proofs.AllWays.{reads_so}
+use Rattle.text_plans.specs.Costs.{HasPart, bits_of_parts}
+use Rattle.text_plans.specs.Manners.{ArePartsIn, BeginsAsIn, begins_with_designator, mixed_in, plain_in}
+use Rattle.text_plans.specs.declared.rules.Manner.{Manner}
+use Rattle.text_plans.specs.declared.rules.Manner.TheVariants.{Ascii, Paired, Designated}
 use Rattle.text_plans.proofs.Bounds.{had_segment, if_parts, joined_is}
 use Rattle.text_plans.proofs.Weights.{bits_rise}
 use Rattle.text_symbols.proofs.Valid.{segment_valid}
@@ -57,6 +59,7 @@ record IsShorter (version : Version) (plain mixed : Bool) (force : Option ℕ) (
   had : All (HasPart version) some
   designators : has_no_designator some ≡ has_no_designator parts
   kanji : has_kanji some ≡ true → has_kanji parts ≡ true
+  begins : begins_with_designator parts ≡ true → begins_with_designator some ≡ true
   fewer : bits_of_parts version some ≤ bits_of_parts version parts
 
 has_segment : (version : Version) (mode : Mode) (bytes : List ℕ) → HasMode version mode → bytes ≢ [] → HasPart version (segment mode bytes)
@@ -101,13 +104,14 @@ module _ (version : Version) (plain mixed : Bool) where
   with_segment : (force : Option ℕ) (mode : Mode) (bytes s t : List ℕ) (parts : List Part) → HasMode version mode →
       IsRead (read_segment plain mixed force mode) (length bytes) s → IsShorter version plain mixed force parts t →
       IsShorter version plain mixed force (segment mode bytes ∷ parts) (s ++ t)
-  unfolding has_no_designator
+  unfolding has_no_designator begins_with_designator
   with_segment force mode bytes [] t parts has here later = record {
     some = later.some;
     reads = later.reads;
     had = later.had;
     designators = later.designators;
     kanji = λ h. later_kanji mode bytes parts (later.kanji h);
+    begins = λ h. absurd (cc);
     fewer = omega (arith, later.fewer);
   }
   with_segment force mode bytes (c ∷ s) t parts has here later = record {
@@ -117,24 +121,34 @@ module _ (version : Version) (plain mixed : Bool) where
         (has_segment version mode here.bytes has (some_bytes plain mixed force mode here.bytes c s here.reads)) later.had;
     designators = later.designators;
     kanji = both_kanji mode here.bytes bytes later.some parts later.kanji;
+    begins = λ h. absurd (cc);
     fewer = omega (arith, later.fewer, bits_rise mode (length here.bytes) (length bytes) here.fewer);
   }
 
   with_designator : (force : Option ℕ) (number : ℕ) (text : List ℕ) (parts : List Part) → is_known number ≡ true → HasPart version (designator number) →
       IsShorter version plain mixed (Some number) parts text → IsShorter version plain mixed force (designator number ∷ parts) text
-  unfolding read_parts has_no_designator has_kanji
+  unfolding read_parts has_no_designator has_kanji begins_with_designator
   with_designator force number text parts known has later = record {
     some = designator number ∷ later.some;
     reads = cond-true (is_known number) (read_parts plain mixed (Some number) later.some) None known ∙ later.reads;
     had = All-cons (HasPart version) (designator number) later.some has later.had;
     designators = refl;
     kanji = later.kanji;
+    begins = λ h. refl;
     fewer = omega (arith, later.fewer);
   }
 
   no_parts : (force : Option ℕ) → IsShorter version plain mixed force [] []
   unfolding read_parts
-  no_parts force = record { some = []; reads = refl; had = All-nil (HasPart version); designators = refl; kanji = λ h. h; fewer = omega arith }
+  no_parts force = record {
+    some = [];
+    reads = refl;
+    had = All-nil (HasPart version);
+    designators = refl;
+    kanji = λ h. h;
+    begins = λ h. h;
+    fewer = omega arith;
+  }
 
   parts_split : (parts : List Part) (force : Option ℕ) (front later : List ℕ) → All (HasPart version) parts →
       read_parts plain mixed force parts ≡ Some (front ++ later) →
@@ -160,27 +174,36 @@ module _ (version : Version) (plain mixed : Bool) where
             (with_segment force mode bytes m.s1 m.t1 parts has here.1 w.1),
       )
 
--- Some parts that are read as a text take no more bits than others.
-pub record HasShorter (version : Version) (text : List ℕ) (parts : List Part) : Type 0 where
+-- Some parts that are read as a text in a manner take no more bits than others.
+pub record HasShorter (manner : Manner) (version : Version) (text : List ℕ) (parts : List Part) : Type 0 where
   pub some : List Part
-  pub written : AreTextParts version text some
+  pub written : ArePartsIn manner version text some
   pub fewer : bits_of_parts version some ≤ bits_of_parts version parts
 
-shorter_read : (version : Version) (parts : List Part) (text : List ℕ) →
-    IsShorter version (has_no_designator parts) (has_kanji parts) None parts text → HasShorter version text parts
-shorter_read version parts text w = record {
+begins_too : (manner : Manner) (parts some : List Part) → (begins_with_designator parts ≡ true → begins_with_designator some ≡ true) →
+    BeginsAsIn manner parts → BeginsAsIn manner some
+begins_too Ascii parts some more h = tt
+begins_too Paired parts some more h = tt
+begins_too Designated parts some more h = more h
+
+shorter_read : (manner : Manner) (version : Version) (parts : List Part) (whole text : List ℕ) → ArePartsIn manner version whole parts →
+    IsShorter version (plain_in manner) (mixed_in manner) None parts text → HasShorter manner version text parts
+shorter_read manner version parts whole text known w = record {
   some = w.some;
   written = record {
-    read = reads_so (has_no_designator parts) (has_kanji parts) w.some text w.reads (λ h. w.designators ∙ h) w.kanji;
+    read = w.reads;
     had = w.had;
+    plain = λ h. w.designators ∙ known.plain h;
+    mixed = λ h. known.mixed (w.kanji h);
+    begins = begins_too manner parts w.some w.begins known.begins;
   };
   fewer = w.fewer;
 }
 
--- Where some parts are read as a text, some that take no more bits are read as its beginning, and
--- some as its end.
-pub shorter_parts : (version : Version) (front later : List ℕ) (parts : List Part) → AreTextParts version (front ++ later) parts →
-    HasShorter version front parts × HasShorter version later parts
-shorter_parts version front later parts w =
-    let both = parts_split version (has_no_designator parts) (has_kanji parts) parts None front later w.had w.read in
-    (shorter_read version parts front both.0, shorter_read version parts later both.1)
+-- Where some parts are read as a text in a manner, some that take no more bits are read as its
+-- beginning, and some as its end.
+pub shorter_parts : (manner : Manner) (version : Version) (front later : List ℕ) (parts : List Part) →
+    ArePartsIn manner version (front ++ later) parts → HasShorter manner version front parts × HasShorter manner version later parts
+shorter_parts manner version front later parts w =
+    let both = parts_split version (plain_in manner) (mixed_in manner) parts None front later w.had w.read in
+    (shorter_read manner version parts (front ++ later) front w both.0, shorter_read manner version parts (front ++ later) later w both.1)

@@ -16,7 +16,11 @@ use Rattle.qrcode_bits.specs.declared.bits.front.Content.TheVariants.{Text}
 use Rattle.qrcode_bits.proofs.{Choices.capacity-grows, Cutting.least_room, Texts.length-slice, Texts.slice-join}
 use Rattle.qrcode_core.proofs.BestCuts.{is_place, places_order}
 use Rattle.text_reading.specs.Reading.{has_kanji, has_no_designator, read_parts}
-use Rattle.text_plans.specs.Costs.{AreTextParts, HasPart}
+use Rattle.text_plans.specs.Costs.{HasPart}
+use Rattle.text_plans.specs.Manners.{ArePartsIn, BeginsAsIn, begins_with_designator}
+use Rattle.text_plans.specs.declared.rules.Manner.{Manner}
+use Rattle.text_plans.specs.declared.rules.Manner.TheVariants.{Ascii, Paired, Designated}
+use Rattle.text_plans.proofs.Starts.{text_in}
 use Rattle.text_parts.specs.TextParts.{IsTextPartTooLong, PartsFitAfterHeader}
 use Rattle.text_symbols.proofs.{TextFrames.parts_dense, Valid.parts_sound, Versions.long_unfit}
 use Rattle.text_cuts.specs.TextCuts.{IsPartFromTooLong}
@@ -25,25 +29,27 @@ use Rattle.text_cuts.proofs.Shorter.{shorter_parts}
 -- ---- Texts that are too long
 
 -- No version holds more than 7089 characters.
-pub many_too_long : (text : List ℕ) (level : EcLevel) (limit : ℕ) → 7089 < length text → IsTextPartTooLong text level limit
-many_too_long text level limit long n few parts w =
+pub many_too_long : (manner : Manner) (text : List ℕ) (level : EcLevel) (limit : ℕ) → 7089 < length text → IsTextPartTooLong manner text level limit
+many_too_long manner text level limit long n few parts w =
     long_unfit n level text long parts
-    (record { written = w.written; limit = w.limit; has_level = w.has_level; within = omega (arith, w.within) })
+    (record { written = text_in manner (normal n) text parts w.written; limit = w.limit; has_level = w.has_level; within = omega (arith, w.within) })
 
 -- No mode takes fewer than ten bits for three characters.
-pub dense_too_long : (level : EcLevel) (limit d : ℕ) → capacity (normal limit) level ≡ Some d → (text : List ℕ) → (d / 10 + 1) * 3 ≤ length text →
-    IsTextPartTooLong text level limit
-dense_too_long level limit d known text long n few parts w =
+pub dense_too_long : (level : EcLevel) (limit d : ℕ) → capacity (normal limit) level ≡ Some d → (manner : Manner) (text : List ℕ) →
+    (d / 10 + 1) * 3 ≤ length text → IsTextPartTooLong manner text level limit
+dense_too_long level limit d known manner text long n few parts w =
     let grows = capacity-grows level n limit w.limit d few w.has_level known in
-    let short = (parts_sound (has_no_designator parts) (has_kanji parts) None parts text w.written.read).1 in
+    let read = (text_in manner (normal n) text parts w.written).read in
+    let short = (parts_sound (has_no_designator parts) (has_kanji parts) None parts text read).1 in
     let dense = parts_dense (normal n) parts in
     omega (arith, grows, short, dense, long, w.within)
 
-pub far_too_long : (level : EcLevel) (limit size : ℕ) → ((text : List ℕ) → size ≤ length text → IsTextPartTooLong text level limit) →
-    (text : List ℕ) → min size 7090 ≤ length text → IsTextPartTooLong text level limit
-far_too_long level limit size far text long = elim (cases_lt 7089 (length text)) [
-  | inl more ↦ many_too_long text level limit more
-  | inr few ↦ far text (omega (arith, long, few))
+pub far_too_long : (level : EcLevel) (limit size : ℕ) →
+    ((manner : Manner) (text : List ℕ) → size ≤ length text → IsTextPartTooLong manner text level limit) →
+    (manner : Manner) (text : List ℕ) → min size 7090 ≤ length text → IsTextPartTooLong manner text level limit
+far_too_long level limit size far manner text long = elim (cases_lt 7089 (length text)) [
+  | inl more ↦ many_too_long manner text level limit more
+  | inr few ↦ far manner text (omega (arith, long, few))
 ]
 
 -- The capacity of a version that has the level is no error.
@@ -52,21 +58,36 @@ pub has_limit : (o : Option ℕ) (c : ℕ) (f e : QrError) → o ≡ Some c →
 has_limit None c f e h k = absurd (cc)
 has_limit (Some d) c f e h k = cc
 
-no_text : (level : EcLevel) → (d : ℕ) × (capacity (normal 1) level ≡ Some d) × (72 ≤ d) → PartsFitAfterHeader (normal 1) level [] []
-unfolding read_parts
-no_text level room = record {
-  written = record { read = refl; had = All-nil (HasPart (normal 1)) };
+none_begins : (manner : Manner) → BeginsAsIn manner []
+unfolding begins_with_designator
+none_begins Ascii = tt
+none_begins Paired = tt
+none_begins Designated = refl
+
+no_text : (manner : Manner) (level : EcLevel) → (d : ℕ) × (capacity (normal 1) level ≡ Some d) × (72 ≤ d) →
+    PartsFitAfterHeader manner (normal 1) level [] []
+unfolding read_parts has_no_designator has_kanji
+no_text manner level room = record {
+  written = record {
+    read = refl;
+    had = All-nil (HasPart (normal 1));
+    plain = λ h. refl;
+    mixed = λ h. absurd (cc);
+    begins = none_begins manner;
+  };
   limit = room.0;
   has_level = room.1;
   within = omega (arith, room.2);
 }
 
 -- A part of no characters fits.
-pub nothing_fits_one : (message : List ℕ) (level : EcLevel) (limit p : ℕ) → 1 ≤ limit → IsPartFromTooLong message level limit p p → ⊥
-nothing_fits_one message level limit p some long =
+pub nothing_fits_one : (manner : Manner) (message : List ℕ) (level : EcLevel) (limit p : ℕ) → 1 ≤ limit →
+    IsPartFromTooLong manner message level limit p p → ⊥
+nothing_fits_one manner message level limit p some long =
     let none : p - p ≡ 0 = omega arith in
     let empty : chars (slice_range message p p) ≡ [] = ap (λ (n : ℕ). chars (take n (drop p message))) none ∙ chars-nil in
-    long 1 some [] (subst (λ (text : List ℕ). PartsFitAfterHeader (normal 1) level text []) (sym empty) (no_text level (least_room level)))
+    long 1 some []
+    (subst (λ (text : List ℕ). PartsFitAfterHeader manner (normal 1) level text []) (sym empty) (no_text manner level (least_room level)))
 
 -- ---- Characters of parts
 
@@ -98,17 +119,18 @@ module _ (message : List ℕ) (utf8 : IsUtf8 message) where
       some (c ∷ cs) e = omega arith
 
   -- A part within a part that fits, fits too.
-  pub text_within : (level : EcLevel) (limit p q r s : ℕ) → p ≤ q → q ≤ r → r ≤ s → IsSplitPoint message p → IsSplitPoint message q →
-      IsSplitPoint message r → IsPartFromTooLong message level limit q r → IsPartFromTooLong message level limit p s
-  text_within level limit p q r s h k l a b d none n few parts w =
+  pub text_within : (manner : Manner) (level : EcLevel) (limit p q r s : ℕ) → p ≤ q → q ≤ r → r ≤ s → IsSplitPoint message p →
+      IsSplitPoint message q → IsSplitPoint message r → IsPartFromTooLong manner message level limit q r →
+      IsPartFromTooLong manner message level limit p s
+  text_within manner level limit p q r s h k l a b d none n few parts w =
       let e : chars (slice_range message p s)
       ≡ chars (slice_range message p q) ++ (chars (slice_range message q r) ++ chars (slice_range message r s)) =
       chars_join p q s h (omega arith) a b
       ∙ ap (λ (x : List ℕ). chars (slice_range message p q) ++ x) (chars_join q r s k l b d) in
-      let written = subst (λ (x : List ℕ). AreTextParts (normal n) x parts) e w.written in
-      let end = (shorter_parts (normal n) (chars (slice_range message p q)) (chars (slice_range message q r) ++ chars (slice_range message r s)) parts
+      let written = subst (λ (x : List ℕ). ArePartsIn manner (normal n) x parts) e w.written in
+      let end = (shorter_parts manner (normal n) (chars (slice_range message p q)) (chars (slice_range message q r) ++ chars (slice_range message r s)) parts
       written).1 in
-      let part = (shorter_parts (normal n) (chars (slice_range message q r)) (chars (slice_range message r s)) end.some end.written).0 in
+      let part = (shorter_parts manner (normal n) (chars (slice_range message q r)) (chars (slice_range message r s)) end.some end.written).0 in
       none n few part.some
       (record { written = part.written; limit = w.limit; has_level = w.has_level; within = omega (arith, w.within, end.fewer, part.fewer) })
 
@@ -136,10 +158,11 @@ module _ (message : List ℕ) (utf8 : IsUtf8 message) where
 
   -- So a part up to a place that is far enough is too long.
   pub far_place : (places : List ℕ) → AreCutPlaces Text message places → (level : EcLevel) (limit size : ℕ) →
-      ((text : List ℕ) → size ≤ length text → IsTextPartTooLong text level limit) → (first i : ℕ) → first + size ≤ i → i < length places →
-      IsPartFromTooLong message level limit (slice_index_or places first 0) (slice_index_or places i 0)
-  far_place places are level limit size far first i past inside =
+      ((manner : Manner) (text : List ℕ) → size ≤ length text → IsTextPartTooLong manner text level limit) → (manner : Manner) (first i : ℕ) →
+      first + size ≤ i → i < length places →
+      IsPartFromTooLong manner message level limit (slice_index_or places first 0) (slice_index_or places i 0)
+  far_place places are level limit size far manner first i past inside =
       let e : first + (i - first) ≡ i = omega arith in
       let many = many_chars places are first (i - first) (omega arith) in
-      subst (λ (j : ℕ). IsPartFromTooLong message level limit (slice_index_or places first 0) (slice_index_or places j 0)) e
-      (far (chars (slice_range message (slice_index_or places first 0) (slice_index_or places (first + (i - first)) 0))) (omega (arith, many)))
+      subst (λ (j : ℕ). IsPartFromTooLong manner message level limit (slice_index_or places first 0) (slice_index_or places j 0)) e
+      (far manner (chars (slice_range message (slice_index_or places first 0) (slice_index_or places (first + (i - first)) 0))) (omega (arith, many)))

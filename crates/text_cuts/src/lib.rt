@@ -1,18 +1,19 @@
-//! Cuts of a text into as few parts as can be, each for one symbol of a sequence, in whichever way
-//! its parts are written (ISO/IEC 18004:2006, "Structured Append").
+//! Cuts of a text into as few parts as can be, each for one symbol of a sequence, in whichever
+//! manner the sequence is written (ISO/IEC 18004:2006, "Structured Append").
 //!
 //! 1. Refuse what has more characters than 16 symbols hold.
 //! 2. List the places between characters, at which the text may be cut (`cut_places`).
-//! 3. Make each part the longest one that fits (`last_fitting`): guess its end by the bits that its
-//!    characters take, and test it (`fitting_bits`). A part that lies within one that fits, fits
-//!    too, so that no other cuts make fewer parts.
+//! 3. In each manner make each part the longest one that fits (`last_fitting`): guess its end by the
+//!    bits that its characters take, and test it (`fitting_bits`). A part that lies within one that
+//!    fits, fits too, so that no other cuts make fewer parts in the manner.
+//! 4. Take the fewest of these (`fewer`).
 //!
 //! ```text
 //! let cuts = smallest_text_cuts(alloc, text, EcLevel::M, 10)?;
 //! ```
 #![tactic(auto)]
 
-ghost use Rattle.std.specs.Prelude.{◌≡◌, ◌+◌, ◌<◌, ◌≤◌, ℕ, length, nat_abs, chars, slice_index_or};
+ghost use Rattle.std.specs.Prelude.{◌≡◌, ◌+◌, ◌<◌, ◌≤◌, ◌⊎◌, ℕ, length, nat_abs, chars, slice_index_or};
 ghost use Rattle.std.specs.Prelude.{All, List, Some, IfErr, IfNone, IfOk, IfSome, OnOk};
 ghost use Rattle.std.specs.List.Sorted.{IsNonDecreasing};
 ghost use Rattle.qrcode_base.specs.Symbols.{IsNormalNumber, capacity};
@@ -21,14 +22,16 @@ ghost use Rattle.qrcode_bits.specs.Places.{AreCutPlaces, IsCutPlace};
 ghost use Rattle.qrcode_bits.specs.Plans.{normal};
 ghost use Rattle.qrcode_bits.specs.declared.bits.front.Content.TheVariants.{Text};
 ghost use Rattle.text_parts.specs.TextParts.{IsSomeTextPartTooLong, IsTextPartTooLong};
-ghost use Rattle.text_cuts.specs.TextCuts.{AreBestTextCuts, IsPartFromTooLong};
-ghost use Rattle.text_cuts.specs.TextCuts.{IsTextCutsRefusal};
+ghost use Rattle.text_plans.specs.declared.rules.Manner.{Manner};
+ghost use Rattle.text_cuts.specs.TextCuts.{AreBestTextCuts, AreFewestIn, HasNoCutsIn};
+ghost use Rattle.text_cuts.specs.TextCuts.{IsPartFromTooLong, IsTextCutsRefusal, count_of_cuts};
 
 use qrcode_base::symbols::{LONGEST_DATA, is_normal_number};
 use qrcode_base::types::{EcLevel, QrError, QrResult, Version};
 use qrcode_bits::bits::{Content, cut_places, data_capacity_bits};
 use std::alloc::{AllocError, Global};
 use text_parts::chosen_part;
+use text_plans::Manner;
 
 /// The most symbols of a sequence.
 const MOST_PARTS: usize = 16;
@@ -41,9 +44,14 @@ const HEADER_BITS: usize = 20;
 const MOST_GUESSES: usize = 8;
 
 /// Returns the places, in bytes of UTF-8, at which to cut a text so that each part fits a version
-/// of at most `max_version` after the header of a sequence, in whichever way it is written, and no
-/// other cuts make fewer parts that do. Each is between two characters. A text that fits one symbol
-/// after a header has no cuts, and needs no sequence.
+/// of at most `max_version` after the header of a sequence, where all parts are written in one
+/// manner, and no other cuts make fewer parts that do, in whichever manner. Each is between two
+/// characters. A text that fits one symbol after a header has no cuts, and needs no sequence.
+///
+/// The manners are those in which readers that take each symbol by itself and readers that join
+/// them find one text: without designators and Kanji segments; without designators, where bytes are
+/// those characters of ASCII alone that are the same in JIS X 0201; and with a designator in front of
+/// each symbol.
 ///
 /// # Errors
 ///
@@ -66,16 +74,11 @@ pub fn smallest_text_cuts(
     ensures limit { OnOk result (IsNormalNumber max_version) }
     ensures refusal { IfErr result (IsTextCutsRefusal text.now level max_version) }
 {
-    longest_parts(alloc, text, level, max_version)
+    fewest_parts(alloc, text, level, max_version)
 }
 
-/// Returns the cuts by which each part is the longest one that fits.
-fn longest_parts(
-    alloc: Global,
-    text: &str,
-    level: EcLevel,
-    max_version: i16,
-) -> QrResult<Vec<usize>>
+/// Returns the cuts of the fewest parts that fit in some manner.
+fn fewest_parts(alloc: Global, text: &str, level: EcLevel, max_version: i16) -> QrResult<Vec<usize>>
     ensures best { IfOk result (λ cuts.
         AreBestTextCuts text.now level (nat_abs max_version) cuts.items) }
     ensures limit { OnOk result (IsNormalNumber max_version) }
@@ -90,20 +93,72 @@ fn longest_parts(
     }
     let limit = max_version as usize;
     let places = text_places(alloc, text)?;
+    let ascii = longest_parts(alloc, text, &places, Manner::Ascii, level, limit)?;
+    let paired = longest_parts(alloc, text, &places, Manner::Paired, level, limit)?;
+    let designated = longest_parts(alloc, text, &places, Manner::Designated, level, limit)?;
+    let plain = fewer(ascii, paired);
+    match fewer(plain, designated) {
+        Some(cuts) => Ok(cuts),
+        None => Err(QrError::DataTooLong),
+    }
+}
+
+/// Returns how many cuts there are, the greatest number if there are none.
+fn count_of(cuts: &Option<Vec<usize>>) -> usize
+    ensures { result ≡ count_of_cuts cuts.now }
+{
+    match cuts {
+        Some(cuts) => cuts.len(),
+        None => usize::MAX,
+    }
+}
+
+/// Returns the fewer of two lists of cuts, the first if they are as many.
+fn fewer(first: Option<Vec<usize>>, second: Option<Vec<usize>>) -> Option<Vec<usize>>
+    ensures less { count_of_cuts result ≤ count_of_cuts first }
+    ensures also { count_of_cuts result ≤ count_of_cuts second }
+    ensures either { (result ≡ first) ⊎ (result ≡ second) }
+{
+    if count_of(&first) <= count_of(&second) {
+        first
+    } else {
+        second
+    }
+}
+
+/// Returns the cuts by which each part is the longest one that fits in a manner, if they make at
+/// most 16 parts. It fails for lack of memory.
+fn longest_parts(
+    alloc: Global,
+    text: &str,
+    places: &[usize],
+    manner: Manner,
+    level: EcLevel,
+    limit: usize,
+) -> QrResult<Option<Vec<usize>>>
+    requires places { AreCutPlaces Text text.now places.now }
+    requires some { 1 ≤ limit }
+    requires most { limit ≤ 40 }
+    ensures fewest { IfOk result (λ found. IfSome found (λ cuts.
+        AreFewestIn manner text.now level limit cuts.items)) }
+    ensures none { IfOk result (λ found. IfNone found
+        (HasNoCutsIn manner text.now level limit)) }
+    ensures memory { IfErr result (λ e. e ≡ QrError.OutOfMemory) }
+{
     let mut cuts = Vec::new(alloc);
     let mut first = 0;
     for count in 0..MOST_PARTS {
-        let last = last_fitting(alloc, text, &places, first, level, limit)?;
+        let last = last_fitting(alloc, text, places, first, manner, level, limit)?;
         if last + 1 == places.len() {
-            return Ok(cuts);
+            return Ok(Some(cuts));
         }
         if last == first {
-            return Err(QrError::DataTooLong);
+            return Ok(None);
         }
         cuts.push(places[last])?;
         first = last;
     }
-    Err(QrError::DataTooLong)
+    Ok(None)
 }
 
 /// Returns the number of characters of a text.
@@ -121,12 +176,14 @@ fn text_places(alloc: Global, text: &str) -> Result<Vec<usize>, AllocError>
     cut_places(alloc, Content::Text, text.as_bytes())
 }
 
-/// Returns the index of the last place up to which the part from the place at index `first` fits.
+/// Returns the index of the last place up to which the part from the place at index `first` fits in
+/// a manner.
 fn last_fitting(
     alloc: Global,
     text: &str,
     places: &[usize],
     first: usize,
+    manner: Manner,
     level: EcLevel,
     limit: usize,
 ) -> QrResult<usize>
@@ -136,10 +193,10 @@ fn last_fitting(
     requires most { limit ≤ 40 }
     ensures from { IfOk result (λ last. first ≤ last) }
     ensures exists { IfOk result (λ last. last < length places.now) }
-    ensures fits { IfOk result (λ last. IsPartFromTooLong text.now level limit
+    ensures fits { IfOk result (λ last. IsPartFromTooLong manner text.now level limit
         (slice_index_or places.now first 0) (slice_index_or places.now last 0) → ⊥) }
     ensures last { IfOk result (λ last. (later : ℕ) → last < later → later < length places.now →
-        IsPartFromTooLong text.now level limit (slice_index_or places.now first 0)
+        IsPartFromTooLong manner text.now level limit (slice_index_or places.now first 0)
         (slice_index_or places.now later 0)) }
     ensures memory { IfErr result (λ e. e ≡ QrError.OutOfMemory) }
 {
@@ -156,7 +213,7 @@ fn last_fitting(
         guesses = guesses.saturating_sub(1);
         let middle = between(low, high, guess);
         let part = &text[places[first]..places[middle]];
-        if let Some(bits) = fitting_bits(alloc, part, level, limit)? {
+        if let Some(bits) = fitting_bits(alloc, part, manner, level, limit)? {
             low = middle;
             guess = middle.saturating_add(more_characters(middle - first, bits, room));
         } else {
@@ -211,24 +268,30 @@ fn first_too_long(level: EcLevel, limit: usize) -> usize
     requires last { limit ≤ 40 }
     ensures some { 1 ≤ result }
     ensures most { result ≤ LONGEST_DATA + 1 }
-    ensures too_long { (text : List ℕ) → result ≤ length text →
-        IsTextPartTooLong text level limit }
+    ensures too_long { (manner : Manner) (text : List ℕ) → result ≤ length text →
+        IsTextPartTooLong manner text level limit }
 {
     ((capacity_of(level, limit) / 10 + 1) * 3).min(LONGEST_DATA + 1)
 }
 
-/// Returns whether a text fits some version up to a greatest one, after a header; if so, the bits
-/// that it takes. It fails for lack of memory.
-fn fitting_bits(alloc: Global, text: &str, level: EcLevel, limit: usize) -> QrResult<Option<usize>>
+/// Returns whether a text fits some version up to a greatest one, after a header, in a manner; if so,
+/// the bits that it takes. It fails for lack of memory.
+fn fitting_bits(
+    alloc: Global,
+    text: &str,
+    manner: Manner,
+    level: EcLevel,
+    limit: usize,
+) -> QrResult<Option<usize>>
     requires some { 1 ≤ limit }
     requires last { limit ≤ 40 }
     ensures fits { IfOk result (λ found. IfSome found (λ bits.
-        IsTextPartTooLong (chars text.now) level limit → ⊥)) }
+        IsTextPartTooLong manner (chars text.now) level limit → ⊥)) }
     ensures too_long { IfOk result (λ found. IfNone found
-        (IsTextPartTooLong (chars text.now) level limit)) }
+        (IsTextPartTooLong manner (chars text.now) level limit)) }
     ensures memory { IfErr result (λ e. e ≡ QrError.OutOfMemory) }
 {
-    match chosen_part(alloc, text, level, limit) {
+    match chosen_part(alloc, text, manner, level, limit) {
         Ok(choice) => Ok(Some(choice.bits)),
         Err(QrError::DataTooLong) => Ok(None),
         Err(_) => Err(QrError::OutOfMemory),

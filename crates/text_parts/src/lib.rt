@@ -1,8 +1,9 @@
 //! The choice of the version of one part of a text that is spread over several symbols: the
-//! smallest in which it fits after the header of the sequence, in whichever way it is written.
+//! smallest in which it fits after the header of the sequence, in the manner in which all symbols of
+//! the sequence are written.
 //!
 //! ```text
-//! let choice = chosen_part(alloc, "市北前倉東", EcLevel::M, 40)?;
+//! let choice = chosen_part(alloc, "市北前倉東", Manner::Paired, EcLevel::M, 40)?;
 //! ```
 #![tactic(auto)]
 
@@ -16,7 +17,7 @@ ghost use Rattle.text_parts.specs.TextParts.{HasNoPartChoice, HaveNoRoomBefore, 
 use qrcode_base::symbols::LONGEST_DATA;
 use qrcode_base::types::{EcLevel, QrError, QrResult, Version};
 use std::alloc::Global;
-use text_plans::least_plan;
+use text_plans::{Manner, least_plan_in};
 use text_symbols::choice::Choice;
 use version_choices::{first_holding, last_of_class};
 
@@ -56,23 +57,29 @@ fn first_holding_part(bits: usize, level: EcLevel, first: usize, end: usize) -> 
     first_holding(bits.saturating_add(HEADER_BITS), level, first, end)
 }
 
-/// Returns the least plan of a text in the smallest Normal version, up to a greatest one, in which
-/// it fits after the header of a symbol of a sequence (ISO/IEC 18004:2006, "Structured Append").
-/// The bits of the choice are those of the plan, without the header.
+/// Returns the least plan of a text in a manner in the smallest Normal version, up to a greatest
+/// one, in which it fits after the header of a symbol of a sequence (ISO/IEC 18004:2006, "Structured
+/// Append"). The bits of the choice are those of the plan, without the header.
 ///
 /// # Errors
 ///
-/// It fails with `DataTooLong` only where nothing that is read as the text fits any of the
-/// versions after a header; more than 7089 characters fail without an allocation. It fails with
-/// `OutOfMemory` where an allocation failed.
-pub fn chosen_part(alloc: Global, text: &str, level: EcLevel, limit: usize) -> QrResult<Choice>
+/// It fails with `DataTooLong` only where nothing that is read as the text in the manner fits any
+/// of the versions after a header; more than 7089 characters fail without an allocation. It fails
+/// with `OutOfMemory` where an allocation failed.
+pub fn chosen_part(
+    alloc: Global,
+    text: &str,
+    manner: Manner,
+    level: EcLevel,
+    limit: usize,
+) -> QrResult<Choice>
     requires some { 1 ≤ limit }
     requires last { limit ≤ 40 }
-    ensures chosen { IfOk result (λ choice. IsPartChoice (chars text.now) level limit
+    ensures chosen { IfOk result (λ choice. IsPartChoice manner (chars text.now) level limit
         choice.number (plan_parts choice.plan)) }
     ensures bits { IfOk result (λ choice.
         choice.bits ≡ bits_of_parts (normal choice.number) (plan_parts choice.plan)) }
-    ensures refusal { IfErr result (HasNoPartChoice (chars text.now) level limit) }
+    ensures refusal { IfErr result (HasNoPartChoice manner (chars text.now) level limit) }
 {
     let count = char_count(text);
     if count > LONGEST_DATA {
@@ -82,7 +89,7 @@ pub fn chosen_part(alloc: Global, text: &str, level: EcLevel, limit: usize) -> Q
     while first <= limit {
         let last = last_of_class(first, limit);
         let version = Version::Normal(last as i16);
-        if let Some((plan, bits)) = least_plan(alloc, text, version)? {
+        if let Some((plan, bits)) = least_plan_in(alloc, text, version, manner)? {
             if let Some(number) = first_holding_part(bits, level, first, last + 1) {
                 return Ok(Choice { plan, bits, number });
             }

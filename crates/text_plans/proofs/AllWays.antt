@@ -86,11 +86,20 @@ reads_so plain mixed parts text h p m = parts_more plain (has_no_designator part
 -- ---- Each list of parts is written in one of the ways
 
 module _ (version : Version) (plain mixed : Bool) (rules : Rules) (are : AreRules version plain mixed rules) where
-  suits_plain : (parts : List Part) → has_no_designator parts ≡ true → plain ≡ true → Suits rules rules.start parts
+  pub suits_plain : (parts : List Part) → has_no_designator parts ≡ true → plain ≡ true → mixed ≡ true → Suits rules rules.start parts
   unfolding has_no_designator
-  suits_plain [] h e = tt
-  suits_plain (designator number ∷ parts) h e = absurd (cc)
-  suits_plain (segment mode bytes ∷ parts) h e = (λ k. are.lanes.kanji_plain e, suits_plain parts h e)
+  suits_plain [] h e m = tt
+  suits_plain (designator number ∷ parts) h e m = absurd (cc)
+  suits_plain (segment mode bytes ∷ parts) h e m = (λ k. are.lanes.kanji_plain e m, suits_plain parts h e m)
+
+  pub suits_bare : (parts : List Part) (lane : ℕ) → has_no_designator parts ≡ true → has_kanji parts ≡ false → Suits rules lane parts
+  unfolding has_no_designator has_kanji
+  suits_bare [] lane h k = tt
+  suits_bare (designator number ∷ parts) lane h k = absurd (cc)
+  suits_bare (segment Numeric bytes ∷ parts) lane h k = (λ e. absurd (cc), suits_bare parts lane h k)
+  suits_bare (segment Alphanumeric bytes ∷ parts) lane h k = (λ e. absurd (cc), suits_bare parts lane h k)
+  suits_bare (segment Byte bytes ∷ parts) lane h k = (λ e. absurd (cc), suits_bare parts lane h k)
+  suits_bare (segment Kanji bytes ∷ parts) lane h k = absurd (cc)
 
   suits_unmixed : (parts : List Part) (lane : ℕ) → has_kanji parts ≡ false → plain ≡ false → All (HasPart version) parts → Suits rules lane parts
   unfolding has_kanji
@@ -118,7 +127,7 @@ module _ (version : Version) (plain mixed : Bool) (rules : Rules) (are : AreRule
   kanji_read lane Byte bytes text h e = absurd (cc)
   kanji_read lane Kanji bytes text h e = shift_jis_lane lane (if_list (is_shift_jis (force_of lane)) (read_kanji bytes) text h).0
 
-  suits_mixed : (parts : List Part) (lane : ℕ) (text : List ℕ) → plain ≡ false → mixed ≡ true → All (HasPart version) parts →
+  pub suits_mixed : (parts : List Part) (lane : ℕ) (text : List ℕ) → plain ≡ false → mixed ≡ true → All (HasPart version) parts →
       read_parts false mixed (force_of lane) parts ≡ Some text → Suits rules lane parts
   unfolding read_parts
   suits_mixed [] lane text e m had h = tt
@@ -135,7 +144,7 @@ module _ (version : Version) (plain mixed : Bool) (rules : Rules) (are : AreRule
       )
 
   -- What is looked for weighs no more.
-  bound : (parts : List Part) (text : List ℕ) (all : List Facts) → AreAllFacts text all → All (HasPart version) parts → Suits rules rules.start parts →
+  pub bound : (parts : List Part) (text : List ℕ) (all : List Facts) → AreAllFacts text all → All (HasPart version) parts → Suits rules rules.start parts →
       read_parts plain mixed None parts ≡ Some text → (entry rules all rules.start).fresh ≤ weight_of version parts
   bound parts text all known had suits h =
       parts_bound plain mixed rules version are.headers parts rules.start text all are.lanes.suits are.lanes.inside known had suits
@@ -251,7 +260,7 @@ module _ (version : Version) (bare unmixed mixed : Rules) (b : AreRules version 
   by_flags : (parts : List Part) (text : List ℕ) (all : List Facts) (plain kanji : Bool) → AreAllFacts text all → All (HasPart version) parts →
       has_no_designator parts ≡ plain → has_kanji parts ≡ kanji → read_parts plain kanji None parts ≡ Some text →
       (least_of bare all ≤ weight_of version parts) ⊎ ((least_of unmixed all ≤ weight_of version parts) ⊎ (least_of mixed all ≤ weight_of version parts))
-  by_flags parts text all true true known had p k h = inl (bound version true true bare b parts text all known had (suits_plain version true true bare b parts p refl) h)
+  by_flags parts text all true true known had p k h = inl (bound version true true bare b parts text all known had (suits_plain version true true bare b parts p refl refl) h)
   by_flags parts text all true false known had p k h =
       inr (inl (bound version false false unmixed u parts text all known had
       (suits_unmixed version false false unmixed u parts unmixed.start k refl had) (no_kanji_read parts text None p k h)))
@@ -278,7 +287,7 @@ module _ (version : Version) (bare mixed : Rules) (b : AreRules version true tru
       All (λ facts. TakesNoMore 16 0 facts.sizes) all → All (HasPart version) parts → has_no_designator parts ≡ plain → has_kanji parts ≡ kanji →
       read_parts plain kanji None parts ≡ Some text → (least_of bare all ≤ weight_of version parts) ⊎ (least_of mixed all ≤ weight_of version parts)
   by_two_flags parts text all true true known alike had p k h =
-      inl (bound version true true bare b parts text all known had (suits_plain version true true bare b parts p refl) h)
+      inl (bound version true true bare b parts text all known had (suits_plain version true true bare b parts p refl refl) h)
   by_two_flags parts text all true false known alike had p k h = inr (without_kanji parts text all known alike had k (no_kanji_read parts text None p k h))
   by_two_flags parts text all false false known alike had p k h = inr (without_kanji parts text all known alike had k h)
   by_two_flags parts text all false true known alike had p k h =
@@ -323,7 +332,7 @@ parts_some version [] h = omega arith
 parts_some version (part ∷ parts) h =
     omega (arith, part_some version part (All-head (HasPart version) part parts h), parts_some version parts (All-tail (HasPart version) part parts h))
 
-small_bits : (b l c k : ℕ) → l ≤ b → k ≤ c → BIT * b + l < LIMIT → BIT * b + l ≤ BIT * c + k → b ≤ c
+pub small_bits : (b l c k : ℕ) → l ≤ b → k ≤ c → BIT * b + l < LIMIT → BIT * b + l ≤ BIT * c + k → b ≤ c
 small_bits b l c k lb kc small h = omega arith
 
 pub least_parts : (version : Version) (text : List ℕ) (parts : List Part) → AreTextParts version text parts → weight_of version parts < LIMIT →
@@ -341,7 +350,7 @@ pub many_bits : (version : Version) (text : List ℕ) (parts : List Part) → Ar
     32768 ≤ bits_of_parts version parts
 many_bits version text parts h limit = omega (arith, parts_some version parts h.had)
 
-quotient : (b l : ℕ) → l ≤ b → BIT * b + l < LIMIT → (BIT * b + l) / BIT ≡ b
+pub quotient : (b l : ℕ) → l ≤ b → BIT * b + l < LIMIT → (BIT * b + l) / BIT ≡ b
 quotient b l h small = omega arith
 
 -- A plan of the least weight, and its bits.

@@ -73,7 +73,7 @@ first_bits facts lane Byte = refl
 first_bits facts lane Kanji = refl
 
 -- The lanes of designators are in all symbols.
-inner : (mixed : Bool) (lane : ℕ) → 1 ≤ lane → lane ≤ 15 → SuitsMixed mixed lane
+pub inner : (mixed : Bool) (lane : ℕ) → 1 ≤ lane → lane ≤ 15 → SuitsMixed mixed lane
 inner mixed lane low high = (λ e. absurd (omega arith), λ e. absurd (omega arith))
 
 module _ (plain mixed : Bool) (rules : Rules) where

@@ -18,3 +18,4 @@ pub mod Headers
 pub mod Pairs
 pub mod AllWays
 pub mod Walking
+pub mod Starts

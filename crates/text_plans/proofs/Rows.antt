@@ -44,7 +44,7 @@ pub fresh_is : (rules : Rules) (facts : Facts) (switched lane : ℕ) (rest : Res
 unfolding lane_before
 fresh_is rules facts switched lane rest = refl
 
-begin_below : (rules : Rules) (facts : Facts) (lane : ℕ) (rest : Rest) (mode : Mode) →
+pub begin_below : (rules : Rules) (facts : Facts) (lane : ℕ) (rest : Rest) (mode : Mode) →
     begin_least rules facts lane rest ≤ begin_in rules facts lane rest mode
 unfolding begin_least
 begin_below rules facts lane rest Numeric = omega arith
@@ -63,7 +63,7 @@ fresh_begin rules facts all lane mode h =
       begin_below rules facts lane (entry rules all lane) mode,
     ))
 
-switch_below : (rules : Rules) (facts : Facts) (row : List Rest) (count lane : ℕ) → 1 ≤ lane → lane ≤ count →
+pub switch_below : (rules : Rules) (facts : Facts) (row : List Rest) (count lane : ℕ) → 1 ≤ lane → lane ≤ count →
     switch_least rules facts row count ≤ weight_if true (rules.designator + begin_least rules facts lane (get_or row lane no_rest))
 unfolding switch_least
 switch_below rules facts row zero lane h k = absurd (omega arith)
@@ -82,6 +82,18 @@ fresh_switch rules facts all lane to h low high =
       fresh_is rules facts (switch_least rules facts (rests_of rules all) 15) to (entry rules all to),
       switch_below rules facts (rests_of rules all) 15 to low high,
     )))
+
+-- The least designator with what follows it weighs no more.
+pub switch_first : (rules : Rules) (facts : Facts) (all : List Facts) (to : ℕ) → 1 ≤ to → to ≤ 15 →
+    switch_least rules facts (rests_of rules all) 15 ≤ rules.designator + (entry rules (facts ∷ all) to).fresh
+switch_first rules facts all to low high =
+    let within : to < 17 = omega arith in
+    rw (entry_step rules facts all to within)
+    (omega (
+      arith,
+      fresh_is rules facts (switch_least rules facts (rests_of rules all) 15) to (entry rules all to),
+      switch_below rules facts (rests_of rules all) 15 to low high,
+    ))
 
 -- Without designators none is the least.
 pub switch_none : (rules : Rules) (facts : Facts) (row : List Rest) (count : ℕ) → LIMIT ≤ rules.designator → switch_least rules facts row count ≡ LIMIT

@@ -64,13 +64,13 @@ bits_append version (part ∷ parts) more = omega (arith, bits_append version pa
 pub weight_append : (version : Version) (parts more : List Part) → weight_of version (parts ++ more) ≡ weight_of version parts + weight_of version more
 weight_append version parts more = omega (arith, bits_append version parts more, length-append parts more)
 
-plain_append : (parts more : List Part) → has_no_designator parts ≡ true → has_no_designator more ≡ true → has_no_designator (parts ++ more) ≡ true
+pub plain_append : (parts more : List Part) → has_no_designator parts ≡ true → has_no_designator more ≡ true → has_no_designator (parts ++ more) ≡ true
 unfolding has_no_designator
 plain_append [] more h k = k
 plain_append (designator number ∷ parts) more h k = absurd (cc)
 plain_append (segment mode bytes ∷ parts) more h k = plain_append parts more h k
 
-kanji_append : (parts more : List Part) → has_kanji (parts ++ more) ≡ true → (has_kanji parts ≡ true) ⊎ (has_kanji more ≡ true)
+pub kanji_append : (parts more : List Part) → has_kanji (parts ++ more) ≡ true → (has_kanji parts ≡ true) ⊎ (has_kanji more ≡ true)
 unfolding has_kanji
 kanji_append [] more h = inr h
 kanji_append (designator number ∷ parts) more h = kanji_append parts more h
@@ -158,7 +158,7 @@ known_lane : (to number : ℕ) → 1 ≤ to → to ≤ 15 → force_of to ≡ So
 unfolding force_of
 known_lane to number low high h = grind (arith, common_steps)
 
-lane_force : (to : ℕ) → 1 ≤ to → to ≤ 15 → (number : ℕ) × (force_of to ≡ Some number)
+pub lane_force : (to : ℕ) → 1 ≤ to → to ≤ 15 → (number : ℕ) × (force_of to ≡ Some number)
 unfolding force_of
 lane_force to low high = (
   if is_between 1 9 to then to + 2

@@ -1,19 +1,20 @@
 -- A plan is written character by character.
-use Rattle.std.proofs.Common.{◌≡◌, ℕ, zero, suc, ◌+◌, ◌≤◌, ◌<◌, Bool, true, false, List, [], ◌∷◌, ◌++◌, length, get_or, take, drop, drop-cons, refl, ap, sym, ◌∙◌, subst, arith, Option, None, Some}
+use Rattle.std.proofs.Common.{◌≡◌, ℕ, zero, suc, ◌+◌, ◌≤◌, ◌<◌, Bool, true, false, List, [], ◌∷◌, ◌++◌, length, get_or, take, drop, drop-cons, refl, ap, sym, ◌∙◌, subst, arith, append_assoc, inl, inr, Option, None, Some}
 use Rattle.std.proofs.lemmas.Grind.{common_steps}
-use Rattle.std.proofs.lemmas.List.{take_more}
+use Rattle.std.proofs.lemmas.List.{append-nil, take_more}
 use Rattle.qrcode_base.specs.declared.types.Mode.{Mode}
 use Rattle.qrcode_base.specs.declared.types.Version.{Version}
 use Rattle.std.proofs.lemmas.List.Elements.{All-nil}
 use Rattle.qrcode_base.specs.declared.types.Mode.TheVariants.{Numeric, Alphanumeric, Byte, Kanji}
 use Rattle.text_plans.specs.Costs.{HasPart}
-use Rattle.text_reading.specs.Reading.{has_kanji, has_no_designator, read_parts}
-use Rattle.text_plans.specs.Choices.{CanBe, IsCharStep, lane_after, open_value}
+use Rattle.text_reading.specs.Reading.{Part, designator, has_kanji, has_no_designator, read_parts, segment}
+use Rattle.text_plans.specs.Choices.{CanBe, IsCharStep, Makes, lane_after, open_value}
 use Rattle.text_plans.specs.Lanes.{AreAllFacts, AreFacts, force_of}
 use Rattle.text_plans.specs.Plan.{Written, all_parts}
 use Rattle.text_plans.specs.Keeping.{IsKeptLane, IsRowOf, KeepsEnough, switch_kept}
 use Rattle.text_plans.specs.Search.{lane_before, no_rest, rests_of, switch_least}
-use Rattle.text_plans.specs.Tables.{IsWeighed, first_weight}
+use Rattle.text_plans.specs.Starts.{BeginWith, IsStart, front_in, front_of, weight_from}
+use Rattle.text_plans.specs.Tables.{IsWeighed}
 use Rattle.text_plans.specs.Ways.{AreRules, weight_of}
 use Rattle.text_plans.specs.declared.facts.Facts.{Facts}
 use Rattle.text_plans.specs.declared.row.Rest.{Rest}
@@ -23,7 +24,7 @@ use Rattle.text_plans.specs.declared.walk.Choice.{Choice}
 use Rattle.text_plans.specs.declared.walk.Choice.TheVariants.{GoOn, Begin, Change}
 use Rattle.text_plans.proofs.Kept.{enough_from, kept_is}
 use Rattle.text_plans.proofs.Rows.{entry, entry_end, entry_step}
-use Rattle.text_plans.proofs.Steps.{AreComplete, IsDraft, OpenReads, all_complete, force_after, step}
+use Rattle.text_plans.proofs.Steps.{AreComplete, IsDraft, OpenReads, all_complete, designated, force_after, lane_force, step}
 
 -- ---- The facts of a text
 
@@ -71,18 +72,46 @@ empty_complete version plain mixed rules are = record {
   mixed_is = λ e. absurd (let no : false ≡ true = e in cc);
 }
 
+-- ---- What a plan begins with
+
+more_parts : (front parts more : List Part) → BeginWith front parts → BeginWith front (parts ++ more)
+more_parts front parts more w = (w.0 ++ more, ap (λ (x : List Part). x ++ more) w.1 ∙ append_assoc front w.0 more)
+
+with_open : (front parts : List Part) (mode : Option Mode) (bytes : List ℕ) → BeginWith front parts →
+    let written : Written = record { parts = parts; mode = mode; bytes = bytes } in BeginWith front (all_parts written)
+with_open front parts None bytes w = w
+with_open front parts (Some mode) bytes w = more_parts front parts (segment mode bytes ∷ []) w
+
+pub all_begin : (front : List Part) (written : Written) → BeginWith front written.parts → BeginWith front (all_parts written)
+all_begin front written w = with_open front written.parts written.mode written.bytes w
+
+-- What a plan begins with stays in front of it.
+begin_still : (rules : Rules) (facts : Facts) (lane c : ℕ) (choice : Choice) (front : List Part) (old new : Written) →
+    CanBe rules facts lane old.mode choice → Makes facts lane c choice old new → BeginWith front old.parts → BeginWith front new.parts
+begin_still rules facts lane c GoOn front old new can makes w =
+    let adds = makes can.0 can.1 in
+    subst (BeginWith front) (sym (ap (λ (x : Written). x.parts) adds.new_is)) w
+begin_still rules facts lane c (Begin mode) front old new can makes w =
+    subst (BeginWith front) (sym (ap (λ (x : Written). x.parts) makes.new_is)) (all_begin front old w)
+begin_still rules facts lane c (Change to mode) front old new can makes w =
+    let number = lane_force to can.0 can.1 in
+    let adds = makes number.0 number.1 in
+    subst (BeginWith front) (sym (ap (λ (x : Written). x.parts) adds.new_is))
+    (more_parts front (all_parts old) (designator number.0 ∷ []) (all_begin front old w))
+
 module _ (version : Version) (plain mixed : Bool) (rules : Rules) (are : AreRules version plain mixed rules) where
-  -- A plan of the first characters.
-  pub record IsWalked (chars : List ℕ) (all : List Facts) (k lane : ℕ) (written : Written) : Type 0 where
+  -- A plan of the first characters, which begins in a lane.
+  pub record IsWalked (chars : List ℕ) (all : List Facts) (start k lane : ℕ) (written : Written) : Type 0 where
     pub draft : IsDraft version plain mixed lane written (take k chars)
     pub kept : IsKeptLane rules.kept lane
+    pub front : BeginWith (front_of start) written.parts
     pub weight : weight_of version (all_parts written) + open_value (entry rules (drop k all) lane) written.mode (length written.bytes)
-        ≡ first_weight rules all
+        ≡ weight_from version rules all start
 
   -- What is no segment has no bytes.
-  pub none_open : (chars : List ℕ) (all : List Facts) (k lane : ℕ) (written : Written) → IsWalked chars all k lane written →
+  pub none_open : (chars : List ℕ) (all : List Facts) (start k lane : ℕ) (written : Written) → IsWalked chars all start k lane written →
       written.mode ≡ None → written.bytes ≡ []
-  none_open chars all k lane written h is =
+  none_open chars all start k lane written h is =
       (subst (λ (m : Option Mode). OpenReads version plain mixed (force_of lane) m written.bytes h.draft.opened) is h.draft.open_reads).0
 
   pub before_is : (all : List Facts) (k lane : ℕ) (d : Facts) (row : List Rest) → k < length all → lane < 17 → IsKeptLane rules.kept lane →
@@ -106,23 +135,24 @@ module _ (version : Version) (plain mixed : Bool) (rules : Rules) (are : AreRule
   chosen_kept facts lane opened (Change to mode) keeps can = can.3
 
   -- The value of what follows is small.
-  pub value_small : (chars : List ℕ) (all : List Facts) (k lane : ℕ) (written : Written) → IsWalked chars all k lane written →
-      first_weight rules all < LIMIT → open_value (entry rules (drop k all) lane) written.mode (length written.bytes) < LIMIT
-  value_small chars all k lane written h small = omega (arith, h.weight)
+  pub value_small : (chars : List ℕ) (all : List Facts) (start k lane : ℕ) (written : Written) → IsWalked chars all start k lane written →
+      weight_from version rules all start < LIMIT → open_value (entry rules (drop k all) lane) written.mode (length written.bytes) < LIMIT
+  value_small chars all start k lane written h small = omega (arith, h.weight, small)
 
-  pub walk_more : (chars : List ℕ) (all : List Facts) (k lane d : ℕ) (e : Facts) (row : List Rest) (old new : Written) (after : ℕ) →
-      AreAllFacts chars all → IsWalked chars all k lane old → first_weight rules all < LIMIT → k < length all → KeepsEnough rules all →
+  pub walk_more : (chars : List ℕ) (all : List Facts) (start k lane d : ℕ) (e : Facts) (row : List Rest) (old new : Written) (after : ℕ) →
+      AreAllFacts chars all → IsWalked chars all start k lane old → weight_from version rules all start < LIMIT → k < length all → KeepsEnough rules all →
       IsRowOf rules (drop (k + 1) all) row → IsCharStep rules (get_or all k e) row lane (get_or chars k d) old new after →
-      IsWalked chars all (k + 1) after new
-  walk_more chars all k lane d e row old new after known h small inside enough is made =
+      IsWalked chars all start (k + 1) after new
+  walk_more chars all start k lane d e row old new after known h small inside enough is made =
       let value = ap (λ (rest : Rest). open_value rest old.mode (length old.bytes))
       (before_is all k lane e row inside h.draft.complete.inside h.kept enough is) in
-      let below = value_small chars all k lane old h small in
+      let below = value_small chars all start k lane old h small in
       let kept = step version plain mixed rules are (get_or all k e) row (get_or chars k d) lane made.choice old new (take k chars) h.draft made.possible made.makes
       (omega (arith, made.weight, value, below)) in
       let within : k < length chars = omega (arith, facts_long chars all known) in
       let keeps = chosen_kept (get_or all k e) lane old.mode made.choice h.kept made.possible in
-      subst (λ (n : ℕ). IsWalked chars all (k + 1) n new) (sym made.after_is) (record {
+      subst (λ (n : ℕ). IsWalked chars all start (k + 1) n new) (sym made.after_is) (record {
+        front = begin_still rules (get_or all k e) lane (get_or chars k d) made.choice (front_of start) old new made.possible made.makes h.front;
         draft = subst (λ (t : List ℕ). IsDraft version plain mixed (lane_after lane made.choice) new t) (sym (take_more chars k d within)) kept.0;
         kept = keeps;
         weight = omega (
@@ -136,28 +166,45 @@ module _ (version : Version) (plain mixed : Bool) (rules : Rules) (are : AreRule
         );
       })
 
-  -- Before the first character.
-  pub walk_first : (chars : List ℕ) (all : List Facts) (written : Written) → KeepsEnough rules all → written.parts ≡ [] → written.mode ≡ None → written.bytes ≡ [] →
-      IsWalked chars all 0 rules.start written
-  walk_first chars all written enough parts mode bytes =
-      let none : Written = record { parts = []; mode = None; bytes = [] } in
+  -- Before the first character there is at most a designator.
+  front_none : front_of rules.start ≡ []
+  front_none = ap (λ (force : Option ℕ). front_in force) are.lanes.no_force
+
+  start_complete : (start : ℕ) → IsStart rules start → AreComplete version plain mixed start (front_of start) []
+  start_complete start h = elim h.1 [
+    | inl same ↦
+        subst (λ (n : ℕ). AreComplete version plain mixed n (front_of n) []) (sym same)
+        (subst (λ (x : List Part). AreComplete version plain mixed rules.start x []) (sym front_none) (empty_complete version plain mixed rules are))
+    | inr found ↦
+        let number = lane_force start found.0 found.1 in
+        let allowed = are.designators found.2 in
+        subst (λ (x : List Part). AreComplete version plain mixed start x []) (sym (ap (λ (force : Option ℕ). front_in force) number.1))
+        (designated version plain mixed rules.start [] [] start number.0 (empty_complete version plain mixed rules are) found.0 found.1 number.1
+        (allowed.1 number.0) allowed.2)
+  ]
+
+  pub walk_first : (chars : List ℕ) (all : List Facts) (start : ℕ) (written : Written) → IsStart rules start → written.parts ≡ front_of start →
+      written.mode ≡ None → written.bytes ≡ [] → IsWalked chars all start 0 start written
+  walk_first chars all start written is parts mode bytes =
+      let none : Written = record { parts = front_of start; mode = None; bytes = [] } in
       let e : none ≡ written = grind (arith, parts, mode, bytes) in
-      subst (λ (w : Written). IsWalked chars all 0 rules.start w) e (record {
+      subst (λ (w : Written). IsWalked chars all start 0 start w) e (record {
         draft = record {
           before = [];
           opened = [];
-          complete = empty_complete version plain mixed rules are;
+          complete = start_complete start is;
           open_reads = (refl, refl);
           text_is = grind (arith, common_steps);
         };
-        kept = enough.0;
+        kept = is.0;
+        front = ([], sym (append-nil (front_of start)));
         weight = grind (arith, common_steps);
       })
 
   -- After the last one.
-  pub walked : (chars : List ℕ) (all : List Facts) (k lane : ℕ) (written : Written) → AreAllFacts chars all → IsWalked chars all k lane written →
-      length all ≤ k → IsWeighed version plain mixed chars (first_weight rules all) (all_parts written)
-  walked chars all k lane written known h past =
+  pub walked : (chars : List ℕ) (all : List Facts) (start k lane : ℕ) (written : Written) → AreAllFacts chars all → IsWalked chars all start k lane written →
+      length all ≤ k → IsWeighed version plain mixed chars (weight_from version rules all start) (all_parts written)
+  walked chars all start k lane written known h past =
       let complete = all_complete version plain mixed lane written (take k chars) h.draft in
       let whole : take k chars ≡ chars = grind (arith, common_steps, facts_long chars all known) in
       let rest : drop k all ≡ [] = grind (arith, common_steps) in

@@ -1,4 +1,6 @@
 pub mod Costs
+pub mod Manners
+pub mod Starts
 pub mod Lanes
 pub mod Search
 pub mod Keeping

@@ -11,19 +11,21 @@ use Rattle.text_plans.specs.Search.{header_weight}
 use Rattle.text_plans.specs.declared.row.TheConstants.{BIT, LIMIT}
 use Rattle.text_plans.specs.declared.rules.Rules.{Rules}
 use Rattle.text_plans.specs.declared.rules.Way.{Way}
-use Rattle.text_plans.specs.declared.rules.Way.TheVariants.{Plain, Unmixed, Mixed}
+use Rattle.text_plans.specs.declared.rules.Way.TheVariants.{Plain, Unmixed, Mixed, Bare}
 
 -- The symbol has no designator.
 abbrev pub plain_of : Way → Bool
 plain_of Plain = true
 plain_of Unmixed = false
 plain_of Mixed = false
+plain_of Bare = true
 
 -- The symbol may have Kanji segments.
 abbrev pub mixed_of : Way → Bool
 mixed_of Plain = true
 mixed_of Unmixed = false
 mixed_of Mixed = true
+mixed_of Bare = false
 
 -- The weight of parts: the bits, then the parts.
 abbrev pub weight_of : Version → List Part → ℕ
@@ -40,7 +42,7 @@ HasHeaders version rules =
 pub record AreLanes (plain mixed : Bool) (start kanji_lane : ℕ) : Type 0 where
   pub kanji : (lane : ℕ) → lane < 17 → kanji_lane ≡ lane →
       ((plain || is_shift_jis (force_of lane)) ≡ true) × (mixed ≡ true)
-  pub kanji_plain : plain ≡ true → kanji_lane ≡ start
+  pub kanji_plain : plain ≡ true → mixed ≡ true → kanji_lane ≡ start
   pub kanji_mixed : plain ≡ false → mixed ≡ true → kanji_lane ≡ 14
   pub inside : start < 17
   pub suits : SuitsMixed mixed start

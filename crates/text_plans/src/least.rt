@@ -23,7 +23,7 @@ use qrcode_base::types::Version;
 use std::alloc::{AllocError, Global};
 
 /// Returns the characters of a text.
-fn chars_of(alloc: Global, text: &str) -> Result<Vec<char>, AllocError>
+pub fn chars_of(alloc: Global, text: &str) -> Result<Vec<char>, AllocError>
     ensures { IfOk result (λ all. all.items ≡ chars text.now) }
 {
     let mut all = Vec::with_capacity(alloc, text.chars().count())?;
@@ -34,7 +34,7 @@ fn chars_of(alloc: Global, text: &str) -> Result<Vec<char>, AllocError>
 }
 
 /// Returns what is so of each character of a text.
-fn facts_of_all(alloc: Global, chars: &[char]) -> Result<Vec<Facts>, AllocError>
+pub fn facts_of_all(alloc: Global, chars: &[char]) -> Result<Vec<Facts>, AllocError>
     ensures { IfOk result (λ all. AreAllFacts chars.now all.items) }
 {
     let mut all = Vec::with_capacity(alloc, chars.len())?;
@@ -145,7 +145,7 @@ fn plan_by(
     if weight >= LIMIT {
         return Ok(None);
     }
-    let plan = plan_of(alloc, rules, chars, all, rows)?;
+    let plan = plan_of(alloc, rules, rules.start, chars, all, rows)?;
     Ok(Some((plan, weight as usize / BIT as usize)))
 }
 

@@ -12,7 +12,10 @@ mod push;
 mod row;
 mod rules;
 mod table;
+mod together;
 mod walk;
 
 pub use least::least_plan;
 pub use plan::{PlanPart, TextPlan};
+pub use rules::Manner;
+pub use together::least_plan_in;

@@ -5,18 +5,33 @@ ghost use Rattle.qrcode_base.specs.Modes.{HasMode, count_width, indicator_width}
 ghost use Rattle.qrcode_base.specs.Symbols.{HasMicroNumber};
 ghost use Rattle.text_reading.specs.Reading.{designator};
 ghost use Rattle.text_plans.specs.Costs.{HasPart};
+ghost use Rattle.text_plans.specs.Manners.{mixed_in, plain_in};
 ghost use Rattle.text_plans.specs.Ways.{AreLanes, AreRulesOf, mixed_of, plain_of};
 
 use crate::row::{BIT, LIMIT};
 use qrcode_base::types::{Mode, Version};
 
 /// The ways in which a symbol may have a text, by what readers take bytes and pairs for: without a
-/// designator, with designators but without a Kanji segment, and with both.
+/// designator, with designators but without a Kanji segment, with both, and with neither.
 #[derive(Clone, Copy)]
 pub enum Way {
     Plain,
     Unmixed,
     Mixed,
+    Bare,
+}
+
+/// How all symbols of a sequence are written, so that readers that take each symbol by itself and
+/// readers that join them find one text.
+#[derive(Clone, Copy)]
+pub enum Manner {
+    /// No symbol has a designator or a Kanji segment.
+    Ascii,
+    /// No symbol has a designator. Symbols have Kanji segments, and bytes of those characters of
+    /// ASCII alone that are the same in JIS X 0201.
+    Paired,
+    /// Each symbol that is not empty begins with a designator.
+    Designated,
 }
 
 /// The weights of headers, and the lanes that a text may be written in. A weight counts the bits
@@ -83,7 +98,7 @@ fn designator_weight(version: Version, way: Way) -> u32
 {
     match version {
         Version::Normal(_) => match way {
-            Way::Plain => LIMIT,
+            Way::Plain | Way::Bare => LIMIT,
             Way::Unmixed | Way::Mixed => 12 * BIT as u32 + 1,
         },
         Version::Micro(_) => LIMIT,
@@ -99,6 +114,19 @@ fn lanes_of(way: Way) -> (usize, usize)
         Way::Plain => (16, 16),
         Way::Unmixed => (0, 17),
         Way::Mixed => (16, 14),
+        Way::Bare => (0, 17),
+    }
+}
+
+/// Returns the way in which a manner has each symbol.
+pub fn way_of(manner: Manner) -> Way
+    ensures plain { plain_of result ≡ plain_in manner }
+    ensures mixed { mixed_of result ≡ mixed_in manner }
+{
+    match manner {
+        Manner::Ascii => Way::Bare,
+        Manner::Paired => Way::Plain,
+        Manner::Designated => Way::Mixed,
     }
 }
 

@@ -4,7 +4,8 @@ ghost use Rattle.std.specs.Prelude.{◌≡◌, ◌<◌, length, get_or, Some, No
 ghost use Rattle.text_plans.specs.Lanes.{AreFacts, AreAllFacts};
 ghost use Rattle.text_plans.specs.Plan.{plan_parts};
 ghost use Rattle.text_plans.specs.Ways.{AreRulesOf};
-ghost use Rattle.text_plans.specs.Tables.{AreRowsOf, IsPlanOf, first_weight};
+ghost use Rattle.text_plans.specs.Starts.{BeginWith, IsStart, front_of, weight_from};
+ghost use Rattle.text_plans.specs.Tables.{AreRowsOf, IsPlanOf};
 ghost use Rattle.text_plans.specs.Keeping.{KeepsEnough, switch_kept};
 ghost use Rattle.text_plans.specs.Search.{go_on, lane_before, no_rest};
 ghost use Rattle.text_plans.specs.Choices.{choice_weight, open_value, open_weight};
@@ -195,10 +196,27 @@ fn write_next(
     Ok(after)
 }
 
-/// Returns a plan of the least weight of a text in a way, by what follows each of its characters.
+/// Returns a plan that has no character yet, with the designator of a lane, if the lane has one, and
+/// room for a number of bytes.
+fn begun(alloc: Global, room: usize, start: usize) -> Result<Draft, AllocError>
+    requires { start < 17 }
+    ensures parts { IfOk result (λ draft. draft.parts ≡ front_of start) }
+    ensures mode { IfOk result (λ draft. draft.mode ≡ None) }
+    ensures bytes { IfOk result (λ draft. draft.bytes ≡ []) }
+{
+    let mut draft = Draft::with_capacity(alloc, room)?;
+    if let Some(first) = designator_of(start) {
+        draft.designate(first)?;
+    }
+    Ok(draft)
+}
+
+/// Returns a plan of the least weight of a text in a way that begins in a lane, by what follows each
+/// of its characters.
 pub fn plan_of(
     alloc: Global,
     rules: &Rules,
+    start: usize,
     chars: &[char],
     all: &[Facts],
     rows: &[[Rest; 17]],
@@ -206,13 +224,16 @@ pub fn plan_of(
     requires known { AreAllFacts chars.now all.now }
     requires rules { AreRulesOf rules.now }
     requires enough { KeepsEnough rules.now all.now }
+    requires start { IsStart rules.now start }
+    requires inside { start < 17 }
     requires rows { AreRowsOf rules.now all.now rows.now }
-    requires small { first_weight rules.now all.now < LIMIT }
-    ensures { IfOk result (λ plan. IsPlanOf rules.now chars.now
-        (first_weight rules.now all.now) (plan_parts plan)) }
+    requires small { weight_from rules.now.version rules.now all.now start < LIMIT }
+    ensures plan { IfOk result (λ plan. IsPlanOf rules.now chars.now
+        (weight_from rules.now.version rules.now all.now start) (plan_parts plan)) }
+    ensures front { IfOk result (λ plan. BeginWith (front_of start) (plan_parts plan)) }
 {
-    let mut draft = Draft::with_capacity(alloc, chars.len())?;
-    let mut lane = rules.start;
+    let mut draft = begun(alloc, chars.len(), start)?;
+    let mut lane = start;
     for k in 0..all.len() {
         let value = open_value(&rows[all.len() - k][lane], draft.mode(), draft.count());
         let row = &rows[all.len() - 1 - k];

@@ -18,6 +18,9 @@ use Rattle.qrcode_bits.proofs.Reading.{length-header, numbered}
 use Rattle.qrcode_bits.proofs.Streams.{length-tail}
 use Rattle.text_reading.specs.Reading.{Part, designator, segment, IsReadAs, has_kanji, has_no_designator}
 use Rattle.text_plans.specs.Costs.{AreTextParts, bits_of_parts}
+use Rattle.text_plans.specs.Manners.{ArePartsIn}
+use Rattle.text_plans.specs.declared.rules.Manner.{Manner}
+use Rattle.text_plans.proofs.Starts.{text_in}
 use Rattle.text_symbols.specs.TextFrames.{IsPartSpelled, IsTextFrame, part_spelling, part_spellings}
 use Rattle.text_symbols.proofs.TextFrames.{AreSpelled, all_spelled, counted, length-parts, one_spelling}
 use Rattle.text_symbols.proofs.Valid.{IsSound, parts_sound}
@@ -42,30 +45,35 @@ length-headed v header text parts written =
 
 -- ---- Frames and parts that fit
 
--- The parts of a frame fit its version after a header, and have its payload with the header.
+-- The payload of a frame is that of its parts with the header.
+pub piece_payload : {v : Version} {l : EcLevel} {header : Header} {text : List ℕ} {payload : ℕ} {bits : List Bool} →
+    (f : IsPieceFrame v l header text payload bits) → payload ≡ 20 + bits_of_parts v f.parts
+piece_payload {v = v} {header = header} {text = text} f = f.payload_is ∙ length-headed v header text f.parts f.written
+
+-- The parts of a frame that are those of a manner fit its version after a header.
 pub piece_fits : {v : Version} {l : EcLevel} {header : Header} {text : List ℕ} {payload : ℕ} {bits : List Bool} →
-    (f : IsPieceFrame v l header text payload bits) → PartsFitAfterHeader v l text f.parts × (payload ≡ 20 + bits_of_parts v f.parts)
-piece_fits {v = v} {header = header} {text = text} f =
-    let long = f.payload_is ∙ length-headed v header text f.parts f.written in
-    (record { written = f.written; limit = f.limit; has_level = f.limit_is; within = omega (arith, long, f.fits) }, long)
+    (f : IsPieceFrame v l header text payload bits) → (manner : Manner) → ArePartsIn manner v text f.parts →
+    PartsFitAfterHeader manner v l text f.parts
+piece_fits f manner known =
+    record { written = known; limit = f.limit; has_level = f.limit_is; within = omega (arith, piece_payload f, f.fits) }
 
 -- Where no parts fit, there is no frame.
-pub no_piece_frame : {v : Version} {l : EcLevel} {header : Header} {text : List ℕ} {payload : ℕ} {bits : List Bool} →
-    NoPartsFitAfterHeader v l text → IsPieceFrame v l header text payload bits → ⊥
-no_piece_frame none f = none f.parts (piece_fits f).0
+pub no_piece_frame : {v : Version} {l : EcLevel} {header : Header} {text : List ℕ} {payload : ℕ} {bits : List Bool} → (manner : Manner) →
+    NoPartsFitAfterHeader manner v l text → (f : IsPieceFrame v l header text payload bits) → ArePartsIn manner v text f.parts → ⊥
+no_piece_frame manner none f known = none f.parts (piece_fits f manner known)
 
 -- Parts that fit after a header are those of a frame.
-abbrev pub piece_frame_of : (v : Version) (l : EcLevel) (header : Header) (text : List ℕ) (parts : List Part) → HasHeader v (Some header) →
-    (fits : PartsFitAfterHeader v l text parts) →
+abbrev pub piece_frame_of : (manner : Manner) (v : Version) (l : EcLevel) (header : Header) (text : List ℕ) (parts : List Part) →
+    HasHeader v (Some header) → (fits : PartsFitAfterHeader manner v l text parts) →
     IsPieceFrame v l header text (20 + bits_of_parts v parts) (headed_bits v header parts ++ tail v fits.limit (20 + bits_of_parts v parts))
-piece_frame_of v l header text parts has fits = record {
+piece_frame_of manner v l header text parts has fits = record {
   limit = fits.limit;
   parts = parts;
   limit_is = fits.has_level;
   has_header = has;
-  written = fits.written;
+  written = text_in manner v text parts fits.written;
   counted = counted v l fits.limit parts fits.has_level (omega (arith, fits.within));
-  payload_is = sym (length-headed v header text parts fits.written);
+  payload_is = sym (length-headed v header text parts (text_in manner v text parts fits.written));
   fits = fits.within;
   bits_are = refl;
 }

@@ -1,8 +1,9 @@
 -- The symbols of a text that is spread over several: parts that are one text, in whatever order, and
 -- the smallest symbol of each part.
-use Rattle.std.proofs.Common.{◌≡◌, ℕ, ℤ, ◌+◌, ◌<◌, List, [], ◌∷◌, ◌++◌, chars, get_or, length, map, nat_abs, inl, inr, sym, ap, subst, ◌∙◌, arith}
+use Rattle.std.proofs.Common.{◌≡◌, ℕ, ℤ, ◌+◌, ◌<◌, List, [], ◌∷◌, ◌++◌, chars, get_or, length, map, nat_abs, inl, inr, refl, sym, ap, subst, ◌∙◌, arith}
 use Rattle.std.proofs.Common.{length-append}
-use Rattle.std.specs.Prelude.{All, IsPermutation, encode_utf8_all}
+use Rattle.std.specs.Prelude.{◌≤◌, All, IsPermutation, Some, encode_utf8_all}
+use Rattle.std.specs.List.{concat}
 use Rattle.std.specs.List.Sorted.{IsNonDecreasing}
 use Rattle.std.specs.Str.{IsUtf8}
 use Rattle.std.specs.String.Boundary.{IsSplitPoint}
@@ -19,20 +20,31 @@ use Rattle.qrcode_base.specs.declared.types.errors.QrError.TheVariants.{DataTooL
 use Rattle.qrcode_bits.specs.Frame.{Header, IsTotal}
 use Rattle.qrcode_core.specs.Sequence.{header_at, parts_at}
 use Rattle.qrcode_core.proofs.Sequences.{length-parts}
-use Rattle.text_parts.specs.TextParts.{HasNoPartChoice, IsTextPartTooLong}
-use Rattle.text_sequences.specs.TextPieces.{IsSmallestPartUpTo, PieceReading}
-use Rattle.text_sequences.specs.TextMessages.{AreSmallestTextSymbols, FindsPiece, HaveOneTextMessage, IsSmallestPartAt}
-use Rattle.text_sequences.specs.TextMessages.{IsTextSequenceRefusal, ReadsTextMessage}
+use Rattle.qrcode_base.specs.Symbols.{capacity}
+use Rattle.qrcode_base.specs.declared.types.Version.{Version}
+use Rattle.qrcode_bits.specs.Plans.{normal}
+use Rattle.text_reading.specs.Reading.{IsReadAs, Part}
+use Rattle.text_plans.specs.Costs.{bits_of_parts}
+use Rattle.text_plans.specs.Manners.{ArePartsIn, mixed_in, plain_in}
+use Rattle.text_plans.specs.declared.rules.Manner.{Manner}
+use Rattle.text_plans.specs.declared.rules.Manner.TheVariants.{Ascii, Paired, Designated}
+use Rattle.text_plans.proofs.AllWays.{reads_so}
+use Rattle.text_parts.specs.TextParts.{HasNoPartChoice, IsSomePartTooLongIn, IsTextPartTooLong, PartsFitAfterHeader}
+use Rattle.text_sequences.specs.TextPieces.{IsSmallestPartUpTo, IsSmallestTextPart, PieceReading}
+use Rattle.text_sequences.specs.TextMessages.{AreSmallestTextSymbols, AreSymbolsIn, FindsPiece, HasNoSymbols, HasNoSymbolsIn}
+use Rattle.text_sequences.specs.TextMessages.{HaveOneTextMessage, IsFirstManner, IsSmallestPartAt}
+use Rattle.text_sequences.specs.TextMessages.{IsTextSequenceRefusal, ReadsTextMessage, joined_parts}
 use Rattle.text_parts.specs.TextParts.{IsSomeTextPartTooLong, text_of_part}
-use Rattle.text_sequences.proofs.PieceFrames.{piece_fits}
+use Rattle.text_sequences.proofs.Joined.{join_all}
+use Rattle.text_sequences.proofs.PieceFrames.{piece_payload}
 use Rattle.text_sequences.proofs.TextCuts.{chars_whole}
 use Rattle.text_sequences.proofs.TextPieces.{one_piece_reading}
 
 -- ---- One text
 
 -- a grid is read as one piece with one header
-one_piece : (grid : List Color) (g h : Header) (a b : List ℕ) → FindsPiece grid g a → FindsPiece grid h b → (g ≡ h) × (a ≡ b)
-one_piece grid g h a b p q =
+one_piece : (grid : List Color) (g h : Header) (a b : List ℕ) (m n : List Part) → FindsPiece grid g a m → FindsPiece grid h b n → (g ≡ h) × (a ≡ b)
+one_piece grid g h a b m n p q =
     let same = one_piece_reading grid p.reading q.reading p.reads q.reads in (
       sym p.header_is ∙ (ap (λ (r : PieceReading). r.header) same ∙ q.header_is),
       sym p.piece_is ∙ (ap (λ (r : PieceReading). r.text) same ∙ q.piece_is),
@@ -58,11 +70,14 @@ in_any_order grids shuffled text mixed seen =
     record {
       in_order = seen.in_order;
       pieces = seen.pieces;
+      parts = seen.parts;
       enough = subst IsTotal long seen.enough;
       same_grids = IsPermutation-trans shuffled grids seen.in_order (IsPermutation-sym grids shuffled mixed) seen.same_grids;
       a_piece_each = seen.a_piece_each ∙ long;
+      parts_each = seen.parts_each ∙ long;
       each_read = λ i inside. rw long at seen.each_read i (omega (arith, inside, long));
       text_is = seen.text_is;
+      joined = seen.joined;
     }
 
 pub one_text_message : HaveOneTextMessage
@@ -75,81 +90,173 @@ one_text_message grids shuffled m n mixed f h =
 
 -- ---- The symbols of a sequence, as they are made one after the other
 
--- The first symbols of a sequence, for as many first parts.
-pub record AreFirstSymbols (message cuts : List ℕ) (level : EcLevel) (limit total done : ℕ) (grids : List (List Color)) : Type 0 where
-  pub a_grid_each : length grids ≡ done
-  pub each_smallest : (i : ℕ) → i < done →
-      IsSmallestPartUpTo (header_at (i + 1) total message) (text_of_part message cuts i) level limit (get_or grids i [])
+-- The smallest symbol of a part, which is in these parts.
+pub record HasSymbol (manner : Manner) (header : Header) (text : List ℕ) (level : EcLevel) (limit : ℕ) (grid : List Color) (parts : List Part)
+    : Type 0 where
+  pub small : IsSmallestPartUpTo manner header text level limit grid
+  pub parts_are : small.best.reads.framed.parts ≡ parts
 
--- One more.
-pub one_more : (message cuts : List ℕ) (level : EcLevel) (limit total done : ℕ) (grids : List (List Color)) (grid : List Color) →
-    AreFirstSymbols message cuts level limit total done grids →
-    IsSmallestPartUpTo (header_at (done + 1) total message) (text_of_part message cuts done) level limit grid →
-    AreFirstSymbols message cuts level limit total (done + 1) (grids ++ grid ∷ [])
-one_more message cuts level limit total done grids grid first next = record {
-  a_grid_each = omega (arith, length-append grids (grid ∷ []), first.a_grid_each);
-  each_smallest = λ i below. elim (cases_eq i done) [
-    | inl last ↦ rw (last, get_or_push grids grid [] done first.a_grid_each) next
-    | inr earlier ↦ rw (get_or_append_left grids (grid ∷ []) [] i (omega (arith, first.a_grid_each))) (first.each_smallest i (omega arith))
-  ];
+-- The first symbols of a sequence, for as many first parts.
+pub record AreFirstSymbols (manner : Manner) (message cuts : List ℕ) (level : EcLevel) (limit total done : ℕ) (grids : List (List Color))
+    : Type 0 where
+  pub parts : List (List Part)
+  pub a_grid_each : length grids ≡ done
+  pub parts_each : length parts ≡ done
+  pub each : (i : ℕ) → i < done →
+      HasSymbol manner (header_at (i + 1) total message) (text_of_part message cuts i) level limit (get_or grids i []) (get_or parts i [])
+
+-- None.
+pub no_symbols : (manner : Manner) (message cuts : List ℕ) (level : EcLevel) (limit total : ℕ) →
+    AreFirstSymbols manner message cuts level limit total 0 []
+no_symbols manner message cuts level limit total = record {
+  parts = [];
+  a_grid_each = refl;
+  parts_each = refl;
+  each = λ i below. absurd (omega (arith, below));
 }
 
+-- One more.
+pub one_more : (manner : Manner) (message cuts : List ℕ) (level : EcLevel) (limit total done : ℕ) (grids : List (List Color)) (grid : List Color) →
+    AreFirstSymbols manner message cuts level limit total done grids →
+    IsSmallestPartUpTo manner (header_at (done + 1) total message) (text_of_part message cuts done) level limit grid →
+    AreFirstSymbols manner message cuts level limit total (done + 1) (grids ++ grid ∷ [])
+one_more manner message cuts level limit total done grids grid first next =
+    let parts = next.best.reads.framed.parts in
+    let last : HasSymbol manner (header_at (done + 1) total message) (text_of_part message cuts done) level limit grid parts =
+    record { small = next; parts_are = refl } in
+    record {
+      parts = first.parts ++ parts ∷ [];
+      a_grid_each = omega (arith, length-append grids (grid ∷ []), first.a_grid_each);
+      parts_each = omega (arith, length-append first.parts (parts ∷ []), first.parts_each);
+      each = λ i below. elim (cases_eq i done) [
+        | inl same ↦
+            subst (λ (n : ℕ). HasSymbol manner (header_at (n + 1) total message) (text_of_part message cuts n) level limit
+            (get_or (grids ++ grid ∷ []) n []) (get_or (first.parts ++ parts ∷ []) n [])) (sym same)
+            (rw (get_or_push grids grid [] done first.a_grid_each, get_or_push first.parts parts [] done first.parts_each) last)
+        | inr earlier ↦
+            rw (
+              get_or_append_left grids (grid ∷ []) [] i (omega (arith, first.a_grid_each)),
+              get_or_append_left first.parts (parts ∷ []) [] i (omega (arith, first.parts_each)),
+            ) (first.each i (omega arith))
+      ];
+    }
+
 -- All of them are the result.
-pub smallest_symbols : (message cuts : List ℕ) (level : EcLevel) (limit total done : ℕ) (grids : List (List Color)) → IsUtf8 message →
+pub symbols_of : (manner : Manner) (message cuts : List ℕ) (level : EcLevel) (limit total done : ℕ) (grids : List (List Color)) → IsUtf8 message →
     IsNonDecreasing cuts → All (IsSplitPoint message) cuts → IsTotal total → total ≡ length cuts + 1 → done ≡ total →
-    AreFirstSymbols message cuts level limit total done grids → AreSmallestTextSymbols message cuts level limit grids
-smallest_symbols message cuts level limit total done grids utf8 rise places few count all first =
+    AreFirstSymbols manner message cuts level limit total done grids → AreSymbolsIn manner message cuts level limit grids
+symbols_of manner message cuts level limit total done grids utf8 rise places few count all first =
     let size : total ≡ length grids = sym (first.a_grid_each ∙ all) in
-    let smallest = λ (i : ℕ) (inside : i < length grids). first.each_smallest i (omega arith) in
+    let texts = map chars (parts_at cuts message) in
     let parts : length (parts_at cuts message) ≡ length grids = length-parts 0 cuts message ∙ sym count ∙ size in
+    let many : length texts ≡ length grids = length-map (parts_at cuts message) chars ∙ parts in
     let bytes : message ≡ encode_utf8_all (chars message) = sym (encodes-chars message utf8) in
-    let read : ReadsTextMessage grids (chars message) = record {
-      in_order = grids;
-      pieces = map chars (parts_at cuts message);
-      enough = rw size at few;
-      same_grids = IsPermutation-refl grids;
-      a_piece_each = length-map (parts_at cuts message) chars ∙ parts;
-      each_read = λ i inside.
-          let symbol = rw size at smallest i inside in
-          let piece : text_of_part message cuts i ≡ get_or (map chars (parts_at cuts message)) i [] =
-          sym (get_or-map chars (parts_at cuts message) i [] [] (omega (arith, inside, parts))) in
-          record {
-            reading = symbol.best.reading;
-            reads = symbol.best.reads;
-            header_is = ap (λ (r : PieceReading). r.header) symbol.best.says
-                ∙ ap (λ (bytes : List ℕ). header_at (i + 1) (length grids) bytes) bytes;
-            piece_is = ap (λ (r : PieceReading). r.text) symbol.best.says ∙ piece;
-          };
-      text_is = chars_whole cuts message utf8 rise places;
-    } in
+    let whole = chars_whole cuts message utf8 rise places in
+    let each = λ (i : ℕ) (inside : i < length grids). first.each i (omega (arith, inside, size, all)) in
+    let piece : (i : ℕ) → i < length grids → text_of_part message cuts i ≡ get_or texts i [] = (λ i inside.
+    sym (get_or-map chars (parts_at cuts message) i [] [] (omega (arith, inside, parts)))) in
+    let joined = join_all manner first.parts texts (first.parts_each ∙ all ∙ size ∙ sym many) (λ i below.
+    let inside : i < length grids = omega (arith, below, first.parts_each, all, size) in
+    let symbol = each i inside in (
+      normal symbol.small.best.number,
+      subst (λ (t : List ℕ). ArePartsIn manner (normal symbol.small.best.number) t (get_or first.parts i [])) (piece i inside)
+          (subst (λ (p : List Part). ArePartsIn manner (normal symbol.small.best.number) (text_of_part message cuts i) p) symbol.parts_are
+          symbol.small.best.least.written),
+    )) in
     record {
       a_grid_each = sym size ∙ count;
-      each_smallest = λ i inside. rw count at smallest i inside;
-      reads = λ shuffled mixed. in_any_order grids shuffled (chars message) mixed read;
-      only = λ shuffled other mixed seen. sym (one_text_message grids shuffled (chars message) other mixed read seen);
+      each_smallest = λ i inside. (let symbol = each i inside in rw count at symbol.small);
+      reads = record {
+        in_order = grids;
+        pieces = texts;
+        parts = first.parts;
+        enough = rw size at few;
+        same_grids = IsPermutation-refl grids;
+        a_piece_each = many;
+        parts_each = first.parts_each ∙ all ∙ size;
+        each_read = λ i inside.
+            let symbol = rw size at each i inside in
+            record {
+              reading = symbol.small.best.reading;
+              reads = symbol.small.best.reads;
+              header_is = ap (λ (r : PieceReading). r.header) symbol.small.best.says
+                  ∙ ap (λ (bytes : List ℕ). header_at (i + 1) (length grids) bytes) bytes;
+              piece_is = ap (λ (r : PieceReading). r.text) symbol.small.best.says ∙ piece i inside;
+              parts_are = symbol.parts_are;
+            };
+        text_is = whole;
+        joined = subst (λ (t : List ℕ). IsReadAs (joined_parts first.parts) t) (sym whole)
+            (reads_so (plain_in manner) (mixed_in manner) (joined_parts first.parts) (concat texts) joined.read joined.plain joined.mixed);
+      };
     }
+
+-- The symbols of the first manner that has some are the result of the call.
+pub smallest_symbols : (manner : Manner) (message cuts : List ℕ) (level : EcLevel) (limit : ℕ) (grids : List (List Color)) →
+    IsFirstManner manner message cuts level limit → AreSymbolsIn manner message cuts level limit grids →
+    AreSmallestTextSymbols message cuts level limit grids
+smallest_symbols manner message cuts level limit grids first known = record {
+  manner = manner;
+  first = first;
+  a_grid_each = known.a_grid_each;
+  each_smallest = known.each_smallest;
+  reads = λ shuffled mixed. in_any_order grids shuffled (chars message) mixed known.reads;
+  only = λ shuffled other mixed seen. sym (one_text_message grids shuffled (chars message) other mixed known.reads seen);
+}
 
 -- ---- Parts that are too long
 
--- A part that fails for its length or for memory makes the sequence fail likewise.
-pub refused_part : (message cuts : List ℕ) (level : EcLevel) (limit : ℤ) (total i : ℕ) (e : QrError) → IsNormalNumber limit → IsTotal total →
-    total ≡ length cuts + 1 → i < total → HasNoPartChoice (text_of_part message cuts i) level (nat_abs limit) e →
-    IsTextSequenceRefusal message cuts level limit e
-refused_part message cuts level limit total i DataTooLong in_range few count inside why =
-    (in_range, subst IsTotal count few, (i, omega (arith, inside, count), why))
-refused_part message cuts level limit total i OutOfMemory in_range few count inside why = (in_range, subst IsTotal count few)
-refused_part message cuts level limit total i other in_range few count inside why = absurd why
+-- A part that fails for its length or for memory makes the sequence fail likewise in its manner,
+pub refused_part : (manner : Manner) (message cuts : List ℕ) (level : EcLevel) (limit i : ℕ) (e : QrError) → i < length cuts + 1 →
+    HasNoPartChoice manner (text_of_part message cuts i) level limit e → HasNoSymbolsIn manner message cuts level limit e
+refused_part manner message cuts level limit i DataTooLong inside why = (i, inside, why)
+refused_part manner message cuts level limit i OutOfMemory inside why = tt
+refused_part manner message cuts level limit i other inside why = absurd why
+
+-- and if it does so in the last manner, in all.
+pub refused_last : (message cuts : List ℕ) (level : EcLevel) (limit : ℕ) (e : QrError) → IsSomePartTooLongIn Ascii message cuts level limit →
+    IsSomePartTooLongIn Paired message cuts level limit → HasNoSymbolsIn Designated message cuts level limit e →
+    HasNoSymbols message cuts level limit e
+refused_last message cuts level limit DataTooLong ascii paired why = each
+  where
+    each : (manner : Manner) → IsSomePartTooLongIn manner message cuts level limit
+    each Ascii = ascii
+    each Paired = paired
+    each Designated = why
+refused_last message cuts level limit OutOfMemory ascii paired why = tt
+refused_last message cuts level limit other ascii paired why = absurd why
+
+pub refused_call : (message cuts : List ℕ) (level : EcLevel) (limit : ℤ) (e : QrError) → IsNormalNumber limit → IsTotal (length cuts + 1) →
+    HasNoSymbols message cuts level (nat_abs limit) e → IsTextSequenceRefusal message cuts level limit e
+refused_call message cuts level limit DataTooLong in_range few why = (in_range, few, why)
+refused_call message cuts level limit OutOfMemory in_range few why = (in_range, few)
+refused_call message cuts level limit other in_range few why = absurd why
+
+-- The parts of a smallest symbol fit its version.
+smallest_fits : (manner : Manner) (header : Header) (text : List ℕ) (level : EcLevel) (grid : List Color) →
+    (best : IsSmallestTextPart manner header text level grid) →
+    PartsFitAfterHeader manner (normal best.number) level text best.reads.framed.parts
+smallest_fits manner header text level grid best =
+    let f = best.reads.framed in
+    let version : best.reading.version ≡ normal best.number = ap (λ (r : PieceReading). r.version) best.says in
+    let same : best.reading.level ≡ level = ap (λ (r : PieceReading). r.level) best.says in
+    record {
+      written = best.least.written;
+      limit = f.limit;
+      has_level = subst (λ (l : EcLevel). capacity (normal best.number) l ≡ Some f.limit) same
+          (subst (λ (v : Version). capacity v best.reading.level ≡ Some f.limit) version f.limit_is);
+      within = subst (λ (v : Version). 20 + bits_of_parts v f.parts ≤ f.limit) version (omega (arith, piece_payload f, f.fits));
+    }
 
 -- A part that has its symbol is not too long.
-pub not_too_long : (message cuts : List ℕ) (level : EcLevel) (limit i : ℕ) (grid : List Color) → IsSmallestPartAt message cuts level limit i grid →
-    IsTextPartTooLong (text_of_part message cuts i) level limit → ⊥
-not_too_long message cuts level limit i grid part none =
-    let best = part.best in
-    let reads = rw best.says at best.reads in
-    none best.number part.up_to reads.framed.parts (piece_fits reads.framed).0
+pub not_too_long : (manner : Manner) (message cuts : List ℕ) (level : EcLevel) (limit i : ℕ) (grid : List Color) →
+    IsSmallestPartAt manner message cuts level limit i grid → IsTextPartTooLong manner (text_of_part message cuts i) level limit → ⊥
+not_too_long manner message cuts level limit i grid part none =
+    none part.best.number part.up_to part.best.reads.framed.parts
+    (smallest_fits manner (header_at (i + 1) (length cuts + 1) message) (text_of_part message cuts i) level grid part.best)
 
 -- Where each part has its symbol, none is too long.
 pub none_too_long : (message cuts : List ℕ) (level : EcLevel) (limit : ℕ) (grids : List (List Color)) →
     AreSmallestTextSymbols message cuts level limit grids → IsSomeTextPartTooLong message cuts level limit → ⊥
-none_too_long message cuts level limit grids all (i, inside, none) =
-    not_too_long message cuts level limit i _ (all.each_smallest i (omega (arith, inside, all.a_grid_each))) none
+none_too_long message cuts level limit grids all long =
+    let w = long all.manner in
+    not_too_long all.manner message cuts level limit w.0 _ (all.each_smallest w.0 (omega (arith, w.1, all.a_grid_each))) w.2

@@ -21,14 +21,17 @@ use Rattle.qrcode_core.proofs.OneReading.{one_carried}
 unfoldable use Rattle.qrcode_grid.specs.Blocks.{AreApart}
 use Rattle.qrcode_grid.proofs.Distance.{AreApart-from_blocks}
 use Rattle.text_reading.specs.Reading.{Part}
-use Rattle.text_plans.specs.Costs.{AreTextParts, bits_of_parts}
+use Rattle.text_plans.specs.Costs.{bits_of_parts}
+use Rattle.text_plans.specs.Manners.{ArePartsIn}
+use Rattle.text_plans.specs.declared.rules.Manner.{Manner}
+use Rattle.text_plans.proofs.Starts.{text_in}
 use Rattle.text_symbols.specs.TextFrames.{IsPartSpelled}
 use Rattle.text_symbols.proofs.TextFrames.{all_spelled, counted}
 use Rattle.text_parts.specs.TextParts.{IsPartChoice, PartsFitAfterHeader}
 use Rattle.text_sequences.specs.PieceFrames.{headed_bits}
 use Rattle.text_sequences.specs.TextPieces.{HaveOnePieceReading, IsFarFromOtherPieces, IsSmallestPartUpTo, NoPieceIsAText, NoPieceIsSmaller}
 use Rattle.text_sequences.specs.TextPieces.{HoldsPiece, PieceReading, ReadsTextPiece, TellsPieceReading, piece_reading_of}
-use Rattle.text_sequences.proofs.PieceFrames.{frame_one_piece, headed_is_no_text, length-headed, piece_fits, piece_frame_of, text_sound}
+use Rattle.text_sequences.proofs.PieceFrames.{frame_one_piece, headed_is_no_text, length-headed, piece_fits, piece_frame_of, piece_payload, text_sound}
 
 -- ---- One reading
 
@@ -72,16 +75,16 @@ pieces_apart grid r f other s g same_version same_level differ =
 -- ---- Streams
 
 -- Parts that fit after a header can be spelled.
-pub piece_spelled : (v : Version) (l : EcLevel) (text : List ℕ) (parts : List Part) → PartsFitAfterHeader v l text parts →
+pub piece_spelled : (manner : Manner) (v : Version) (l : EcLevel) (text : List ℕ) (parts : List Part) → PartsFitAfterHeader manner v l text parts →
     All (λ part. IsPartSpelled part v) parts
-piece_spelled v l text parts fits =
-    all_spelled v parts fits.written.had (text_sound v text parts fits.written)
+piece_spelled manner v l text parts fits =
+    all_spelled v parts fits.written.had (text_sound v text parts (text_in manner v text parts fits.written))
     (counted v l fits.limit parts fits.has_level (omega (arith, fits.within)))
 
-module _ (v : Version) (l : EcLevel) (header : Header) (text : List ℕ) (parts : List Part) (stream : Stream) (fits : PartsFitAfterHeader v l text parts)
-    (bits_are : stream.bits ≡ headed_bits v header parts) (version_is : stream.version ≡ v) where
+module _ (manner : Manner) (v : Version) (l : EcLevel) (header : Header) (text : List ℕ) (parts : List Part) (stream : Stream)
+    (fits : PartsFitAfterHeader manner v l text parts) (bits_are : stream.bits ≡ headed_bits v header parts) (version_is : stream.version ≡ v) where
   size : length stream.bits ≡ 20 + bits_of_parts v parts
-  size = ap (λ (bits : List Bool). length bits) bits_are ∙ length-headed v header text parts fits.written
+  size = ap (λ (bits : List Bool). length bits) bits_are ∙ length-headed v header text parts (text_in manner v text parts fits.written)
 
   known : (limit : ℕ) → capacity stream.version l ≡ Some limit → limit ≡ fits.limit
   known limit h = let e : capacity v l ≡ Some limit = subst (λ (u : Version). capacity u l ≡ Some limit) version_is h in
@@ -105,33 +108,36 @@ module _ (v : Version) (l : EcLevel) (header : Header) (text : List ℕ) (parts 
 
 -- ---- The smallest symbol
 
-module _ (header : Header) (text : List ℕ) (level : EcLevel) (limit number : ℕ) (parts : List Part) (choice : IsPartChoice text level limit number parts) where
-  none_smaller : NoPieceIsSmaller text level number (20 + bits_of_parts (normal number) parts)
-  none_smaller grid other bits mask theirs_header reads =
-      let w = piece_fits reads.framed in
+module _ (manner : Manner) (header : Header) (text : List ℕ) (level : EcLevel) (limit number : ℕ) (parts : List Part)
+    (choice : IsPartChoice manner text level limit number parts) where
+  none_smaller : NoPieceIsSmaller manner text level number (20 + bits_of_parts (normal number) parts)
+  none_smaller grid other bits mask theirs_header reads known =
       let theirs = reads.framed.parts in (
-        elim (cases_lt other number) [ inl below ↦ absurd (choice.smallest other below theirs w.0) | inr past ↦ past ],
+        elim (cases_lt other number) [
+          | inl below ↦ absurd (choice.smallest other below theirs (piece_fits reads.framed manner known))
+          | inr past ↦ past
+        ],
         λ same.
-            let written = subst (λ n. AreTextParts (normal n) text theirs) same w.0.written in
-            let long = subst (λ n. bits ≡ 20 + bits_of_parts (normal n) theirs) same w.1 in
+            let written = subst (λ n. ArePartsIn manner (normal n) text theirs) same known in
+            let long = subst (λ n. bits ≡ 20 + bits_of_parts (normal n) theirs) same (piece_payload reads.framed) in
             omega (arith, choice.are_least.bits theirs written, long),
       )
 
   -- The symbol of a header and of a choice after it is the smallest of the piece.
   pub smallest_piece : HasHeader (normal number) (Some header) → (symbol : DrawnSymbol) → HoldsPiece header parts (normal number) level symbol →
-      IsSmallestPartUpTo header text level limit symbol.modules × TellsPieceReading symbol
+      IsSmallestPartUpTo manner header text level limit symbol.modules × TellsPieceReading symbol
   smallest_piece has symbol held =
       let holds = held.holds in
       let size = 20 + bits_of_parts (normal number) parts in
       let same : choice.fits.limit ≡ held.limit = cc (choice.fits.has_level, held.limit_is) in
-      let fits : PartsFitAfterHeader (normal number) level text parts =
+      let fits : PartsFitAfterHeader manner (normal number) level text parts =
       record { written = choice.fits.written; limit = held.limit; has_level = held.limit_is; within = omega (arith, same, choice.fits.within) } in
       let grid = symbol.modules in
       let known : PieceReading = piece_reading_of (normal number) level symbol.mask header text size in
       let reads : ReadsTextPiece grid known = record {
         frame = headed_bits (normal number) header parts ++ tail (normal number) held.limit size;
         carries = holds.carries;
-        framed = piece_frame_of (normal number) level header text parts has fits;
+        framed = piece_frame_of manner (normal number) level header text parts has fits;
       } in (
         record {
           best = record {

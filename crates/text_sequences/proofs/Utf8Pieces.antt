@@ -16,14 +16,19 @@ use Rattle.qrcode_core.specs.Headline.{Reads, reading_of}
 use Rattle.qrcode_grid.specs.declared.canvas.MaskPattern.{MaskPattern}
 use Rattle.text_reading.specs.Reading.{Part}
 use Rattle.text_plans.specs.Costs.{AreTextParts, bits_of_parts}
+use Rattle.text_plans.specs.Manners.{ArePartsIn}
+use Rattle.text_plans.specs.declared.rules.Manner.{Manner}
+use Rattle.text_plans.specs.declared.rules.Manner.TheVariants.{Designated}
+use Rattle.text_plans.proofs.Starts.{designated_parts}
 use Rattle.text_symbols.proofs.Utf8Frames.{utf8_parts}
 use Rattle.text_parts.specs.TextParts.{IsTextPartTooLong, PartsFitAfterHeader}
 use Rattle.text_sequences.specs.TextPieces.{IsSmallestTextPart, NoGridReadsPiece, PieceReading}
-use Rattle.text_sequences.proofs.PieceFrames.{no_piece_frame, piece_fits}
+use Rattle.text_sequences.proofs.PieceFrames.{no_piece_frame, piece_payload}
 
--- Where no parts fit after a header, no grid is read as the text after one.
-pub no_grid : (text : List ℕ) (level : EcLevel) (limit : ℕ) → IsTextPartTooLong text level limit → NoGridReadsPiece text level limit
-no_grid text level limit none grid number payload mask header few reads = no_piece_frame (none number few) reads.framed
+-- Where no parts of a manner fit after a header, no grid is read as the text after one by such parts.
+pub no_grid : (manner : Manner) (text : List ℕ) (level : EcLevel) (limit : ℕ) → IsTextPartTooLong manner text level limit →
+    NoGridReadsPiece manner text level limit
+no_grid manner text level limit none grid number payload mask header few reads known = no_piece_frame manner (none number few) reads.framed known
 
 module _ (v : Version) (level : EcLevel) (header : Header) (bytes : List ℕ) (payload : ℕ) (bits : List Bool)
     (f : IsFrame v level (front_of (Some header) Text) bytes payload bits) where
@@ -57,14 +62,19 @@ module _ (v : Version) (level : EcLevel) (header : Header) (bytes : List ℕ) (p
   }
 
   -- Its parts fit after the header, and take no more bits.
-  pub headed_parts : IsUtf8 bytes → (parts : List Part) × PartsFitAfterHeader v level (chars bytes) parts × (20 + bits_of_parts v parts ≤ payload)
+  pub headed_parts : IsUtf8 bytes →
+      (parts : List Part) × PartsFitAfterHeader Designated v level (chars bytes) parts × (20 + bits_of_parts v parts ≤ payload)
   headed_parts utf8 =
       let w = utf8_parts v level bytes _ _ utf8 unheaded in
       let few : 20 + bits_of_parts v w.0 ≤ payload = omega (arith, headed, w.2) in
-      (w.0, record { written = w.1.written; limit = f.limit; has_level = f.limit_is; within = omega (arith, few, f.fits) }, few)
+      let front = subst (λ (parts : List Part). AreTextParts v (chars bytes) parts) w.3.1 w.1.written in
+      let known : ArePartsIn Designated v (chars bytes) w.0 =
+      subst (λ (parts : List Part). ArePartsIn Designated v (chars bytes) parts) (sym w.3.1)
+      (designated_parts v (chars bytes) 26 w.3.0 front) in
+      (w.0, record { written = known; limit = f.limit; has_level = f.limit_is; within = omega (arith, few, f.fits) }, few)
 
 pub utf8_no_smaller : (bytes : List ℕ) (level : EcLevel) (grid other : List Color) (mine theirs : Header) (number bits : ℕ) (mask : MaskPattern) →
-    IsUtf8 bytes → (best : IsSmallestTextPart mine (chars bytes) level grid) →
+    IsUtf8 bytes → (best : IsSmallestTextPart Designated mine (chars bytes) level grid) →
     Reads other (reading_of (normal number) level mask (front_of (Some theirs) Text) bytes bits) →
     (best.number ≤ number) × (number ≡ best.number → best.payload ≤ bits)
 utf8_no_smaller bytes level grid other mine theirs number bits mask utf8 best reads =
@@ -73,10 +83,10 @@ utf8_no_smaller bytes level grid other mine theirs number bits mask utf8 best re
     let version = ap (λ (r : PieceReading). r.version) best.says in
     let payload = ap (λ (r : PieceReading). r.payload) best.says in
     let long : best.payload ≡ 20 + bits_of_parts (normal best.number) parts =
-    sym payload ∙ ((piece_fits best.reads.framed).1 ∙ ap (λ (v : Version). 20 + bits_of_parts v parts) version) in (
+    sym payload ∙ (piece_payload best.reads.framed ∙ ap (λ (v : Version). 20 + bits_of_parts v parts) version) in (
       elim (cases_lt number best.number) [ inl below ↦ absurd (best.smallest number below w.0 w.1) | inr past ↦ past ],
       λ same.
-          let written = subst (λ (n : ℕ). AreTextParts (normal n) (chars bytes) w.0) same w.1.written in
+          let written = subst (λ (n : ℕ). ArePartsIn Designated (normal n) (chars bytes) w.0) same w.1.written in
           let few = subst (λ (n : ℕ). 20 + bits_of_parts (normal n) w.0 ≤ bits) same w.2 in
           let least = best.least.bits w.0 written in
           omega (arith, long, least, few),

@@ -1,4 +1,4 @@
-//! The smallest symbol of one part of a text, after its header.
+//! The smallest symbol of one part of a text, after its header, in the manner of the sequence.
 //!
 //! 1. Choose the version, and how the part is written (`chosen_part`).
 //! 2. Push the bits of the header and of the part (`piece_bits`).
@@ -8,6 +8,7 @@ ghost use Rattle.qrcode_base.specs.Symbols.{HasMicroNumber};
 ghost use Rattle.qrcode_bits.specs.Frame.{HasHeader, header_of};
 ghost use Rattle.qrcode_bits.specs.Plans.{normal};
 ghost use Rattle.text_plans.specs.Plan.{plan_parts};
+ghost use Rattle.text_plans.specs.declared.rules.Manner.{Manner};
 ghost use Rattle.text_symbols.specs.TextFrames.{IsPartSpelled};
 ghost use Rattle.text_parts.specs.TextParts.{HasNoPartChoice, PartsFitAfterHeader};
 ghost use Rattle.text_sequences.specs.PieceFrames.{headed_bits};
@@ -20,7 +21,7 @@ use qrcode_core::symbol::Symbol;
 use std::alloc::Global;
 use std::marker::Model;
 use text_parts::chosen_part;
-use text_plans::TextPlan;
+use text_plans::{Manner, TextPlan};
 use text_symbols::pushing::push_part;
 
 /// The header of a symbol of a sequence: its position, counted from 1, the number of symbols, and
@@ -91,7 +92,8 @@ fn drawn_piece(
 ) -> QrResult<Symbol>
     requires number { HasMicroNumber version }
     requires header { HasHeader version (Some header.now) }
-    requires fits { (text : List ℕ) × PartsFitAfterHeader version level text (plan_parts plan.now) }
+    requires fits { (manner : Manner) × (text : List ℕ)
+        × PartsFitAfterHeader manner version level text (plan_parts plan.now) }
     ensures holds { IfOk result (HoldsPiece header.now (plan_parts plan.now) version level) }
     ensures memory { IfErr result (λ e. e ≡ QrError.OutOfMemory) }
 {
@@ -99,13 +101,14 @@ fn drawn_piece(
     Symbol::with_bits(alloc, bits, level)
 }
 
-/// Returns the smallest symbol of a part of a text after its header, in the versions up to a
-/// greatest one. It fails with `DataTooLong` only where nothing that is read as the part fits
-/// any of them after a header, and with `OutOfMemory`.
+/// Returns the smallest symbol of a part of a text after its header in a manner, in the versions up
+/// to a greatest one. It fails with `DataTooLong` only where nothing that is read as the part in the
+/// manner fits any of them after a header, and with `OutOfMemory`.
 pub(crate) fn part_symbol(
     alloc: Global,
     header: &PieceHeader,
     part: &str,
+    manner: Manner,
     level: EcLevel,
     limit: usize,
 ) -> QrResult<Symbol>
@@ -113,11 +116,11 @@ pub(crate) fn part_symbol(
     requires some { 1 ≤ limit }
     requires last { limit ≤ 40 }
     ensures smallest { IfOk result (λ symbol.
-        IsSmallestPartUpTo header.now (chars part.now) level limit symbol.modules) }
+        IsSmallestPartUpTo manner header.now (chars part.now) level limit symbol.modules) }
     ensures reading { IfOk result TellsPieceReading }
-    ensures refusal { IfErr result (HasNoPartChoice (chars part.now) level limit) }
+    ensures refusal { IfErr result (HasNoPartChoice manner (chars part.now) level limit) }
 {
-    let choice = chosen_part(alloc, part, level, limit)?;
+    let choice = chosen_part(alloc, part, manner, level, limit)?;
     let version = Version::Normal(choice.number as i16);
     drawn_piece(alloc, header, &choice.plan, version, level)
 }

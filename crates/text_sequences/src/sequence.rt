@@ -1,7 +1,8 @@
 //! The symbols of a text that is spread over several of them.
 //!
 //! 1. Cut the text into parts (`text_part`).
-//! 2. Make the smallest symbol of each part, after its header (`part_symbol`).
+//! 2. Make the smallest symbol of each part, after its header (`part_symbol`), in the first manner in
+//!    which there is one of each part (`symbols_in`).
 ghost use Rattle.std.specs.Prelude.{◌≡◌, ◌+◌, ◌≤◌, [], length, map, nat_abs, slice_index_or, All};
 ghost use Rattle.std.specs.Prelude.{OnOk, IfOk, IfErr};
 ghost use Rattle.std.specs.List.Sorted.{IsNonDecreasing};
@@ -11,9 +12,11 @@ ghost use Rattle.qrcode_bits.specs.Places.{IsCutPlace};
 ghost use Rattle.qrcode_bits.specs.declared.bits.front.Content.TheVariants.{Text};
 ghost use Rattle.qrcode_core.specs.Sequence.{IsTotalRefusal, parity_of, parts_at};
 ghost use Rattle.qrcode_core.specs.Symbol.{modules_of};
-ghost use Rattle.text_sequences.specs.TextMessages.{AreSmallestTextSymbols};
+ghost use Rattle.text_sequences.specs.TextMessages.{AreSmallestTextSymbols, AreSymbolsIn};
+ghost use Rattle.text_sequences.specs.TextMessages.{HasNoSymbols, HasNoSymbolsIn};
 ghost use Rattle.text_sequences.specs.TextMessages.{IsTextSequenceRefusal};
-ghost use Rattle.text_parts.specs.TextParts.{IsSomeTextPartTooLong};
+ghost use Rattle.text_parts.specs.TextParts.{IsSomePartTooLongIn, IsSomeTextPartTooLong};
+ghost use Rattle.text_plans.specs.declared.rules.Manner.TheVariants.{Ascii};
 ghost use Rattle.text_sequences.specs.TextPieces.{TellsPieceReading};
 
 use crate::piece::{PieceHeader, part_symbol};
@@ -21,6 +24,7 @@ use qrcode_base::symbols::is_normal_number;
 use qrcode_base::types::{EcLevel, QrError, QrResult};
 use qrcode_core::symbol::Symbol;
 use std::alloc::Global;
+use text_plans::Manner;
 
 /// Returns the 2 to 16 symbols that carry a text together, in the order of its parts, each the
 /// smallest of its part (ISO/IEC 18004:2006, "Structured Append").
@@ -29,17 +33,23 @@ use std::alloc::Global;
 /// Each cut is between two characters, so that each symbol has whole ones: `are_text_cuts` of
 /// `qrcode_core` tests cuts. Each symbol begins with a header, which holds its position, the number
 /// of symbols, and the exclusive or of all bytes of the text in UTF-8. It is the smallest symbol of
-/// its part in the versions 1 to `max_version`, as `smallest_text` of `text_symbols` returns it,
-/// where the header takes 20 bits. Read in any order, the symbols give the text. A reader finds in
-/// each symbol the version, the level and the mask that the symbol returns.
+/// its part in the versions 1 to `max_version`, where the header takes 20 bits, of those that are
+/// written in one manner. Read in any order, the symbols give the text, both to a reader that takes
+/// each by itself and to one that joins them, in which a designator stays in force from one symbol to
+/// the next. A reader finds in each symbol the version, the level and the mask that the symbol
+/// returns.
+///
+/// The manner is the first of three in which each part has a symbol: without designators and Kanji
+/// segments; without designators, where bytes are those characters of ASCII alone that are the same
+/// in JIS X 0201; and with a designator in front of each symbol.
 ///
 /// # Errors
 ///
 /// It fails with `InvalidResourceLimits` if `max_version` is outside 1 to 40. Then it fails with
 /// `InvalidStructuredAppend` if the number of parts is not 2 to 16; the error holds that number, at
-/// most 255. Then it fails with `DataTooLong` only where nothing that is read as some part fits
-/// any of the versions, and with `OutOfMemory` where an allocation failed. A call that fails
-/// returns no symbol.
+/// most 255. Then it fails with `DataTooLong` only where in each manner nothing that is read as some
+/// part fits any of the versions, and with `OutOfMemory` where an allocation failed. A call that
+/// fails returns no symbol.
 pub fn smallest_text_sequence(
     alloc: Global,
     text: &str,
@@ -61,12 +71,74 @@ pub fn smallest_text_sequence(
 {
     let total = total_of(cuts, max_version)?;
     let limit = number_of(max_version);
+    match symbols_in(alloc, text, cuts, Manner::Ascii, level, limit, total) {
+        Ok(symbols) => Ok(symbols),
+        Err(QrError::DataTooLong) => beyond_ascii(alloc, text, cuts, level, limit, total),
+        Err(error) => Err(error),
+    }
+}
+
+/// Returns what `smallest_text_sequence` does, of parts of which some is too long without
+/// designators and Kanji segments.
+fn beyond_ascii(
+    alloc: Global,
+    text: &str,
+    cuts: &[usize],
+    level: EcLevel,
+    limit: usize,
+    total: u8,
+) -> QrResult<Vec<Symbol>>
+    requires ordered { IsNonDecreasing cuts.now }
+    requires within { All (λ cut. cut ≤ length text.now) cuts.now }
+    requires whole { All (λ cut. IsCutPlace Text text.now cut) cuts.now }
+    requires total { total ≡ length cuts.now + 1 }
+    requires few { IsTotal total }
+    requires some { 1 ≤ limit }
+    requires last { limit ≤ 40 }
+    requires long { IsSomePartTooLongIn Ascii text.now cuts.now level limit }
+    ensures smallest { IfOk result (λ symbols. AreSmallestTextSymbols text.now cuts.now level limit
+        (map modules_of symbols.items)) }
+    ensures reading { IfOk result (λ symbols. All TellsPieceReading symbols.items) }
+    ensures refusal { IfErr result (HasNoSymbols text.now cuts.now level limit) }
+{
+    match symbols_in(alloc, text, cuts, Manner::Paired, level, limit, total) {
+        Ok(symbols) => Ok(symbols),
+        Err(QrError::DataTooLong) => {
+            symbols_in(alloc, text, cuts, Manner::Designated, level, limit, total)
+        }
+        Err(error) => Err(error),
+    }
+}
+
+/// Returns the symbols of all parts, each the smallest of its part in a manner. It fails with
+/// `DataTooLong` only where some part is too long in the manner, and with `OutOfMemory`.
+fn symbols_in(
+    alloc: Global,
+    text: &str,
+    cuts: &[usize],
+    manner: Manner,
+    level: EcLevel,
+    limit: usize,
+    total: u8,
+) -> QrResult<Vec<Symbol>>
+    requires ordered { IsNonDecreasing cuts.now }
+    requires within { All (λ cut. cut ≤ length text.now) cuts.now }
+    requires whole { All (λ cut. IsCutPlace Text text.now cut) cuts.now }
+    requires total { total ≡ length cuts.now + 1 }
+    requires few { IsTotal total }
+    requires some { 1 ≤ limit }
+    requires last { limit ≤ 40 }
+    ensures smallest { IfOk result (λ symbols. AreSymbolsIn manner text.now cuts.now level limit
+        (map modules_of symbols.items)) }
+    ensures reading { IfOk result (λ symbols. All TellsPieceReading symbols.items) }
+    ensures refusal { IfErr result (HasNoSymbolsIn manner text.now cuts.now level limit) }
+{
     let parity = parity_of(text.as_bytes());
     let mut symbols = Vec::new(alloc);
     for index in 0..total {
         let part = text_part(text, cuts, usize::from(index));
         let header = PieceHeader::new(index + 1, total, parity);
-        let symbol = part_symbol(alloc, &header, part, level, limit);
+        let symbol = part_symbol(alloc, &header, part, manner, level, limit);
         symbols.push(symbol?)?;
     }
     Ok(symbols)

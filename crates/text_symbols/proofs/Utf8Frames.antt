@@ -275,8 +275,11 @@ front_long : length (front_bits (front_of None Text)) ≡ 12
 front_long = omega (arith, length-append (number_bits 4 7) (number_bits 8 26), length-number_bits 4 7, length-number_bits 8 26)
 
 -- A frame of a text in UTF-8 has parts that are read as the text, which fit and take no more bits.
+-- They begin with a designator.
 pub utf8_parts : (v : Version) (level : EcLevel) (bytes : List ℕ) (payload : ℕ) (bits : List Bool) → IsUtf8 bytes →
-    IsFrame v level (front_of None Text) bytes payload bits → (parts : List Part) × PartsFit v level (chars bytes) parts × (bits_of_parts v parts ≤ payload)
+    IsFrame v level (front_of None Text) bytes payload bits →
+    (parts : List Part) × PartsFit v level (chars bytes) parts × (bits_of_parts v parts ≤ payload)
+    × ((rest : List Part) × (parts ≡ designator 26 ∷ rest))
 utf8_parts (Micro k) level bytes payload bits utf8 f = absurd f.front_fits.1
 utf8_parts (Normal k) level bytes payload bits utf8 f =
     let g = pieces_glued k f.pieces f.spellable f.nonempty f.allowed in
@@ -295,4 +298,5 @@ utf8_parts (Normal k) level bytes payload bits utf8 f =
         within = omega (arith, few, f.fits);
       },
       few,
+      (glued f.pieces, refl),
     )

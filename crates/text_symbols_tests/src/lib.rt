@@ -10,6 +10,8 @@ mod cut_tests;
 #[cfg(test)]
 mod grids;
 #[cfg(test)]
+mod joined_tests;
+#[cfg(test)]
 mod kanji_tests;
 #[cfg(test)]
 mod plan_tests;

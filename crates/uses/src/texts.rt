@@ -32,7 +32,7 @@ pub fn name_tag(alloc: Global, text: &str) -> QrResult<Symbol>
 }
 
 /// Returns the symbols of a text that is too long for one, at level M, as few as can be, each the
-/// smallest of its part.
+/// smallest of its part in the manner in which all are written.
 pub fn leaflet(alloc: Global, text: &str) -> QrResult<Vec<Symbol>>
     ensures fewest { IfOk result (λ symbols. (cuts : List ℕ)
         × AreBestTextCuts text.now EcLevel.M 40 cuts

@@ -202,15 +202,15 @@ pub(super) fn parsed_bytes(alloc: Global, content: Content, bytes: &[u8]) -> QrR
     Ok(parsed)
 }
 
-/// Returns whether a byte is one of the 82 characters of element strings.
+/// Returns whether a byte is one of the 82 characters of element strings, or a number sign.
 #[tactic(auto, unfolding(crate::specs::Contents::is_element_character))]
 fn is_element_character(byte: u8) -> bool
     ensures { result ≡ is_element_character byte }
 {
-    matches!(byte, 0x21..=0x22 | 0x25..=0x3f | b'A'..=b'Z' | b'_' | b'a'..=b'z')
+    matches!(byte, 0x21..=0x23 | 0x25..=0x3f | b'A'..=b'Z' | b'_' | b'a'..=b'z')
 }
 
-/// Returns whether the byte at a place is one of the 82 characters, or a separator with an element
+/// Returns whether the byte at a place is a character of elements, or a separator with an element
 /// on either side.
 fn is_element_byte(bytes: &[u8], place: usize) -> bool
     requires { place < length bytes.now }
@@ -224,8 +224,8 @@ fn is_element_byte(bytes: &[u8], place: usize) -> bool
 }
 
 /// Returns the place of the first byte because of which the bytes are no GS1 elements, and that
-/// byte; `None` if they are elements. Elements are of the 82 characters of GS1, with the separator
-/// 1D (hex) between two of them: not at either end, and not after another.
+/// byte; `None` if they are elements. Elements are of the 82 characters of GS1 and the number sign,
+/// with the separator 1D (hex) between two of them: not at either end, and not after another.
 pub fn first_no_element(bytes: &[u8]) -> Option<(usize, u8)>
     ensures { MatchOption result (AreElements bytes.now)
         (λ first. IsFirstNoElement bytes.now first.0 first.1) }

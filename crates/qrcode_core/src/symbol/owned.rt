@@ -113,8 +113,9 @@ impl Symbol {
     /// # Errors
     ///
     /// It fails with `InvalidCharacter` for the first byte that is none of the 82 characters of
-    /// GS1, and no separator between two elements. Then it fails with `DataTooLong` exactly where
-    /// nothing fits version 40 at the level, and with `OutOfMemory` where an allocation failed.
+    /// GS1, no number sign, and no separator between two elements. Then it fails with `DataTooLong`
+    /// exactly where nothing fits version 40 at the level, and with `OutOfMemory` where an
+    /// allocation failed.
     pub fn elements(alloc: Global, elements: &[u8], level: EcLevel) -> QrResult<Symbol>
         ensures best { IfOk result (λ symbol. IsBestElements elements.now level symbol.modules) }
         ensures reading { IfOk result TellsReading }

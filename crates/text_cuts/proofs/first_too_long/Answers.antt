@@ -5,7 +5,7 @@ use Rattle.text_cuts.proofs.Slices.{dense_too_long, far_too_long}
 use Rattle.text_cuts.proofs.first_too_long.Goals as goal
 
 pub returns-clause-too_long : goal.returns-clause-too_long
-returns-clause-too_long c text long =
+returns-clause-too_long c manner text long =
     far_too_long c.args.level c.args.limit ((c.capacity_of.result / 10 + 1) * 3)
-    (dense_too_long c.args.level c.args.limit c.capacity_of.result c.capacity_of.ensures) text
+    (dense_too_long c.args.level c.args.limit c.capacity_of.result c.capacity_of.ensures) manner text
     (subst (λ (n : ℕ). n ≤ length text) c.min.ensures long)

@@ -12,10 +12,10 @@ loop-high-init c = record {
   from = omega arith;
   order = omega (arith, c.requires.exists, c.first_too_long.ensures.some);
   inside = omega (arith, c.requires.exists);
-  fits = nothing_fits_one c.args.text.now c.args.level c.args.limit (slice_index_or c.args.places.now c.args.first 0) c.requires.some;
+  fits = nothing_fits_one c.args.manner c.args.text.now c.args.level c.args.limit (slice_index_or c.args.places.now c.args.first 0) c.requires.some;
   after = λ i past inside.
       far_place c.args.text.now c.utf8.text c.args.places.now c.requires.places c.args.level c.args.limit c.first_too_long.result
-      c.first_too_long.ensures.too_long c.args.first i (omega (arith, past, inside)) inside;
+      c.first_too_long.ensures.too_long c.args.manner c.args.first i (omega (arith, past, inside)) inside;
 }
 
 pub range-part-requires-clause-start_le_end : goal.range-part-requires-clause-start_le_end
@@ -53,7 +53,7 @@ loop-high-preserved c =
       inside = omega (arith, within);
       fits = c.loop-high.invariant.fits;
       after = λ i past inside.
-          later_too_long c.args.text.now c.args.level c.args.limit c.utf8.text (slice_index_or c.args.places.now c.args.first 0)
+          later_too_long c.args.manner c.args.text.now c.args.level c.args.limit c.utf8.text (slice_index_or c.args.places.now c.args.first 0)
           (slice_index_or c.args.places.now middle 0) (slice_index_or c.args.places.now i 0)
           (places_order Text c.args.text.now c.args.places.now c.requires.places c.args.first middle
           (omega (arith, c.loop-high.invariant.from, c.between-middle.ensures.above)) within)

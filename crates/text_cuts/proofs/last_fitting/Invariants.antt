@@ -9,9 +9,9 @@ invariant-loop-high l = record {
   from : l.first ≤ l.low;
   order : l.low < l.high;
   inside : l.high ≤ length l.places;
-  fits : IsPartFromTooLong l.text l.level l.limit (slice_index_or l.places l.first 0) (slice_index_or l.places l.low 0) → ⊥;
+  fits : IsPartFromTooLong l.manner l.text l.level l.limit (slice_index_or l.places l.first 0) (slice_index_or l.places l.low 0) → ⊥;
   after : (i : ℕ) → l.high ≤ i → i < length l.places →
-      IsPartFromTooLong l.text l.level l.limit (slice_index_or l.places l.first 0) (slice_index_or l.places i 0);
+      IsPartFromTooLong l.manner l.text l.level l.limit (slice_index_or l.places l.first 0) (slice_index_or l.places i 0);
 }
 
 abbrev pub decreases-loop-high : goal.decreases-loop-high

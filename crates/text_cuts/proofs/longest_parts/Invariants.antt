@@ -3,4 +3,4 @@ use Rattle.text_cuts.proofs.FewestCuts.{AreCutsUpTo}
 use Rattle.text_cuts.proofs.longest_parts.Given as goal
 
 abbrev pub invariant-loop-count : goal.invariant-loop-count
-invariant-loop-count l = AreCutsUpTo l.text l.level l.limit l.places.items l.first l.count l.cuts.items
+invariant-loop-count l = AreCutsUpTo l.manner l.text l.level l.limit l.places l.first l.count l.cuts.items

@@ -7,19 +7,19 @@ use Rattle.text_parts.proofs.chosen_part.Goals as goal
 
 pub returns-then-count-gt-LONGEST_DATA-clause-refusal : goal.returns-then-count-gt-LONGEST_DATA-clause-refusal
 returns-then-count-gt-LONGEST_DATA-clause-refusal c =
-    long_part _ _ _ (omega (arith, c.char_count-count.ensures, c.if-count-gt-LONGEST_DATA.true))
+    long_part _ _ _ _ (omega (arith, c.char_count-count.ensures, c.if-count-gt-LONGEST_DATA.true))
 
 pub loop-first-init : goal.loop-first-init
 loop-first-init c = record {
   some = c.first_with_room-first.ensures.some;
-  none = none_before _ _ _ _ c.char_count-count.ensures c.first_with_room-first.ensures.none;
+  none = none_before _ _ _ _ _ c.char_count-count.ensures c.first_with_room-first.ensures.none;
 }
 
 pub returns-in-Some-first_holding_part-clause-chosen : goal.returns-in-Some-first_holding_part-clause-chosen
 returns-in-Some-first_holding_part-clause-chosen c =
     let plan = rw c.in-Some.is at c.in_ok-plan.ensures in
     let class = c.last_of_class-last.ensures in
-    (class_chosen _ _ c.args.limit c.loop-first.first c.last_of_class-last.result _ _ _ _
+    (class_chosen _ _ _ c.args.limit c.loop-first.first c.last_of_class-last.result _ _ _ _
     (normal_is c.last_of_class-last.result (omega (arith, class.to, c.requires.last)))
     c.loop-first.invariant.some class.to class.class
     c.loop-first.invariant.none plan.least plan.bits c.in-Some-first_holding_part.ensures.found).0
@@ -28,7 +28,7 @@ pub returns-in-Some-first_holding_part-clause-bits : goal.returns-in-Some-first_
 returns-in-Some-first_holding_part-clause-bits c =
     let plan = rw c.in-Some.is at c.in_ok-plan.ensures in
     let class = c.last_of_class-last.ensures in
-    (class_chosen _ _ c.args.limit c.loop-first.first c.last_of_class-last.result _ _ _ _
+    (class_chosen _ _ _ c.args.limit c.loop-first.first c.last_of_class-last.result _ _ _ _
     (normal_is c.last_of_class-last.result (omega (arith, class.to, c.requires.last)))
     c.loop-first.invariant.some class.to class.class
     c.loop-first.invariant.none plan.least plan.bits c.in-Some-first_holding_part.ensures.found).1
@@ -44,10 +44,10 @@ loop-first-preserved c =
       none = elim c.match-branch-2.branch [
         | in-Some+in_default-first_holding_part w ↦
             (let plan = rw w.in-Some.is at c.in_ok-plan.ensures in
-            none_of _ _ c.loop-first.first last _ is some class.class c.loop-first.invariant.none _ _ plan.least plan.bits
+            none_of _ _ _ c.loop-first.first last _ is some class.class c.loop-first.invariant.none _ _ plan.least plan.bits
             (rw w.in_default-first_holding_part.is at w.first_holding_part.ensures).none)
         | in_default w ↦
-            none_many _ _ c.loop-first.first last _ is some class.class c.loop-first.invariant.none (rw w.in_default.is at c.in_ok-plan.ensures.none)
+            none_many _ _ _ c.loop-first.first last _ is some class.class c.loop-first.invariant.none (rw w.in_default.is at c.in_ok-plan.ensures.none)
       ];
     }
 

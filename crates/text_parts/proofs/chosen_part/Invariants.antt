@@ -6,7 +6,7 @@ use Rattle.text_parts.proofs.chosen_part.Given as goal
 abbrev pub invariant-loop-first : goal.invariant-loop-first
 invariant-loop-first l = record {
   some : 1 ≤ l.first;
-  none : NoneFitUpTo (chars l.text) l.level l.first;
+  none : NoneFitUpTo l.manner (chars l.text) l.level l.first;
 }
 
 abbrev pub decreases-loop-first : goal.decreases-loop-first

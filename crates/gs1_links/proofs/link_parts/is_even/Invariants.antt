@@ -2,7 +2,7 @@ use Rattle.std.proofs.Common.{◌≡◌, ◌+◌, ◌%◌, length}
 use Rattle.std.specs.Prelude.{◌==◌}
 use Rattle.std.proofs.Common.{cond, not}
 use Rattle.std.specs.Option.{option_map, option_map_or}
-use Rattle.gs1_links.specs.LinkReader.{is_slash}
+use Rattle.gs1_base.specs.Domains.{is_slash}
 use Rattle.gs1_links.specs.LinkFaults.{cut_parts}
 use Rattle.gs1_links.proofs.link_parts.is_even.Given as goal
 

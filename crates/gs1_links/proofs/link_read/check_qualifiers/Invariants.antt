@@ -1,7 +1,7 @@
 use Rattle.std.proofs.Common.{◌≡◌, ◌≤◌, ◌+◌, true, false, length}
 use Rattle.std.specs.Option.{option_map, option_map_or}
 use Rattle.gs1_links.specs.Links.{order_of}
-use Rattle.gs1_links.specs.LinkReader.{is_slash}
+use Rattle.gs1_base.specs.Domains.{is_slash}
 use Rattle.gs1_links.specs.LinkFaults.{cut_parts, pairs, qualifiers_fault}
 use Rattle.gs1_links.proofs.link_read.check_qualifiers.Given as goal
 

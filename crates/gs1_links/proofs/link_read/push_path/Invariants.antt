@@ -1,7 +1,7 @@
 use Rattle.std.proofs.Common.{◌≡◌, ◌+◌, ◌++◌, length, map}
 use Rattle.std.specs.List.{slice_split}
 use Rattle.std.specs.Option.{option_map, option_map_or}
-use Rattle.gs1_links.specs.LinkReader.{is_slash}
+use Rattle.gs1_base.specs.Domains.{is_slash}
 use Rattle.gs1_links.specs.LinkFaults.{cut_parts, pairs, decoded_element}
 use Rattle.gs1_links.proofs.link_read.push_path.Given as goal
 

@@ -13,7 +13,8 @@ returns g c =
       c.format-3.ensures.text,
       c.saturating_add-2.ensures,
       c.reason_text.ensures,
-      c.unless_zero.ensures,
-      c.digit_text.ensures,
-      c.right_digit-right.ensures,
+      c.would_be_text.ensures,
+      c.letter_text.ensures,
+      c.letter_text-2.ensures,
+      c.right_bytes-first.ensures,
     ) at c.write_line.ensures

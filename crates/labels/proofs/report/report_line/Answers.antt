@@ -7,11 +7,11 @@ use Rattle.labels.proofs.report.report_line.Goals as goal
 
 pub returns-then-is_err-clause-reported : goal.returns-then-is_err-clause-reported
 returns-then-is_err-clause-reported g c =
-    rw (c.requires.said) (Writes-stopped (output (g.E.Sink.state c.args.errors.now) (g.E.Sink.state c.write_all.new.writer)) (codes "qrlabel: line ")
-    (stop_report (decimal c.args.at.number) (devices_of c.args.devices.now) c.args.at.stop) (search rules) c.write_all.ensures.writes)
+    rw (c.requires.said) (Writes-stopped (output (g.E.Sink.state c.args.errors.now) (g.E.Sink.state c.push_all.new.writer)) (codes "qrlabel: line ")
+    (stop_report (decimal c.args.at.number) (devices_of c.args.devices.now) c.args.at.stop) (search rules) c.push_all.ensures.writes)
 
 pub returns-clause-reported : goal.returns-clause-reported
 returns-clause-reported g c =
-    rw (c.requires.said) (Writes-next (g.E.Sink.state c.args.errors.now) (g.E.Sink.state c.write_all.new.writer) (g.E.Sink.state c.report_stop.new.errors)
+    rw (c.requires.said) (Writes-next (g.E.Sink.state c.args.errors.now) (g.E.Sink.state c.push_all.new.writer) (g.E.Sink.state c.report_stop.new.errors)
     (codes "qrlabel: line ") (stop_report (decimal c.args.at.number) (devices_of c.args.devices.now) c.args.at.stop)
-    (search rules) c.write_all.ensures.writes (rw (c.format.ensures.text) at c.report_stop.ensures.reported))
+    (search rules) c.push_all.ensures.writes (rw (c.format.ensures.text) at c.report_stop.ensures.reported))

@@ -12,14 +12,14 @@ pub returns-in_err-elements-clause-refusal : goal.returns-in_err-elements-clause
 returns-in_err-elements-clause-refusal c =
     let p = err_from_is_err_and c.from_residual-in_err-elements.result c.from_residual-in_err-elements.ensures.1 in
     let same = c.in-Ok.ensures.cases.0 in
-    rw (p.1, p.2) (written_failed c.args.by_table c.args.text.now c.args.options.now c.in_ok-checked.checked _ _
+    rw (p.1, p.2) (written_failed c.args.is_checked c.args.text.now c.args.options.now c.in_ok-checked.checked _ _
     c.in_ok-checked.ensures.means c.in_ok-checked.ensures.range (rw same at c.in_err-elements.ensures.refusal))
 
 pub returns-clause-refusal : goal.returns-clause-refusal
 returns-clause-refusal c =
     let elements = c.in_ok-elements.elements.items in
     let same = c.in-Ok.ensures.cases.0 in
-    written_refused c.args.by_table c.args.text.now elements c.args.options.now c.in_ok-checked.checked _ c.in-Err.error c.core_refusal.result
+    written_refused c.args.is_checked c.args.text.now elements c.args.options.now c.in_ok-checked.checked _ c.in-Err.error c.core_refusal.result
     c.in_ok-checked.ensures.means c.in_ok-checked.ensures.range (rw same at c.in_ok-elements.ensures.faultless)
     (rw same at c.in_ok-elements.ensures.found) c.in_ok-elements.ensures.elements
     (rw c.deref.ensures.value at c.in-Err.ensures.refusal) c.core_refusal.ensures

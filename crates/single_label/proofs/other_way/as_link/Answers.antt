@@ -5,7 +5,7 @@ use Rattle.gs1_links.specs.LinkReader.{ReadsLink}
 use Rattle.gs1.specs.Elements.{written_elements}
 use Rattle.gs1_links.specs.Links.{linked}
 use Rattle.label_words.specs.declared.command.Content.TheVariants.{Link}
-use Rattle.single_label.specs.OtherWays.{IsOtherOutcome, IsTextOfBytes, IsLinkOutcome}
+use Rattle.single_label.specs.{Contents.IsTextOfBytes, OtherWays.IsOtherOutcome, OtherWays.IsLinkOutcome}
 use Rattle.single_label.proofs.StopLemmas.{if_ok}
 use Rattle.single_label.proofs.other_way.as_link.Goals as goal
 

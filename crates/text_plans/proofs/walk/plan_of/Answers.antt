@@ -8,14 +8,15 @@ use Rattle.text_plans.specs.Lanes.{AreFacts}
 use Rattle.text_plans.specs.Plan.{Written}
 use Rattle.text_plans.specs.Keeping.{IsKeptLane, IsRowOf}
 use Rattle.text_plans.specs.Search.{no_rest}
-use Rattle.text_plans.specs.Tables.{AreRowsOf, IsWeighed, first_weight}
+use Rattle.text_plans.specs.Starts.{BeginWith, front_of, weight_from}
+use Rattle.text_plans.specs.Tables.{AreRowsOf, IsWeighed}
 use Rattle.text_plans.specs.Ways.{mixed_of, plain_of}
 use Rattle.text_plans.specs.declared.facts.Facts.{Facts}
 use Rattle.text_plans.specs.declared.row.Rest.{Rest}
 use Rattle.text_plans.specs.declared.row.TheConstants.{LIMIT}
 use Rattle.text_plans.specs.declared.rules.Rules.{Rules}
 use Rattle.text_plans.proofs.Rows.{entry}
-use Rattle.text_plans.proofs.Walking.{walk_first, walk_more, walked, before_is, none_open, value_small, facts_at, facts_long}
+use Rattle.text_plans.proofs.Walking.{all_begin, walk_first, walk_more, walked, before_is, none_open, value_small, facts_at, facts_long}
 use Rattle.text_plans.proofs.walk.plan_of.Goals as goal
 
 abbrev none : Facts
@@ -47,7 +48,8 @@ value_at rules all rows k lane written opened count value h inside low keeps mod
 pub loop-k-init : goal.loop-k-init
 loop-k-init c = λ are.
     walk_first c.args.rules.now.version (plain_of c.args.rules.now.way) (mixed_of c.args.rules.now.way) c.args.rules.now are
-    c.args.chars.now c.args.all.now c.in_ok-draft.draft c.requires.enough c.in_ok-draft.ensures.parts c.in_ok-draft.ensures.mode c.in_ok-draft.ensures.bytes
+    c.args.chars.now c.args.all.now c.args.start c.in_ok-draft.draft c.requires.start c.in_ok-draft.ensures.parts c.in_ok-draft.ensures.mode
+    c.in_ok-draft.ensures.bytes
 
 pub bounds-chars-k : goal.bounds-chars-k
 bounds-chars-k c = omega (arith, facts_long c.args.chars.now c.args.all.now c.requires.known)
@@ -63,7 +65,7 @@ write_next-requires-clause-known c =
 pub write_next-requires-clause-sound : goal.write_next-requires-clause-sound
 write_next-requires-clause-sound c =
     none_open c.args.rules.now.version (plain_of c.args.rules.now.way) (mixed_of c.args.rules.now.way) c.args.rules.now c.requires.rules
-    c.args.chars.now c.args.all.now c.loop-k.k c.loop-k.lane c.loop-k.draft (c.loop-k.invariant c.requires.rules)
+    c.args.chars.now c.args.all.now c.args.start c.loop-k.k c.loop-k.lane c.loop-k.draft (c.loop-k.invariant c.requires.rules)
 
 pub bounds-rows-lane : goal.bounds-rows-lane
 bounds-rows-lane c = (c.loop-k.invariant c.requires.rules).draft.complete.inside
@@ -77,7 +79,7 @@ write_next-requires-clause-small c =
     c.mode.result c.count.result c.open_value-value.result c.requires.rows c.loop-k-test.true
     (c.loop-k.invariant c.requires.rules).draft.complete.inside (c.loop-k.invariant c.requires.rules).kept c.mode.ensures c.count.ensures c.open_value-value.ensures))
     (value_small c.args.rules.now.version (plain_of c.args.rules.now.way) (mixed_of c.args.rules.now.way) c.args.rules.now c.requires.rules
-    c.args.chars.now c.args.all.now c.loop-k.k c.loop-k.lane c.loop-k.draft (c.loop-k.invariant c.requires.rules) c.requires.small)
+    c.args.chars.now c.args.all.now c.args.start c.loop-k.k c.loop-k.lane c.loop-k.draft (c.loop-k.invariant c.requires.rules) c.requires.small)
 
 pub write_next-requires-clause-value : goal.write_next-requires-clause-value
 write_next-requires-clause-value c =
@@ -93,17 +95,25 @@ write_next-requires-clause-value c =
 pub loop-k-preserved : goal.loop-k-preserved
 loop-k-preserved c = λ are.
     walk_more c.args.rules.now.version (plain_of c.args.rules.now.way) (mixed_of c.args.rules.now.way) c.args.rules.now are
-    c.args.chars.now c.args.all.now c.loop-k.k c.loop-k.lane c.index-chars-k.result none (get_or c.args.rows.now (length c.args.all.now - 1 - c.loop-k.k) []) c.loop-k.draft c.write_next.new.draft c.in_ok-lane.lane
+    c.args.chars.now c.args.all.now c.args.start c.loop-k.k c.loop-k.lane c.index-chars-k.result none (get_or c.args.rows.now (length c.args.all.now - 1 - c.loop-k.k) []) c.loop-k.draft c.write_next.new.draft c.in_ok-lane.lane
     c.requires.known (c.loop-k.invariant are) c.requires.small c.loop-k-test.true c.requires.enough
     (row_at c.args.rules.now c.args.all.now c.args.rows.now c.loop-k.k c.requires.rows c.loop-k-test.true)
     (subst (λ (x : ℕ). IsCharStep c.args.rules.now (get_or c.args.all.now c.loop-k.k none)
     (get_or c.args.rows.now (length c.args.all.now - 1 - c.loop-k.k) []) c.loop-k.lane x c.loop-k.draft c.write_next.new.draft c.in_ok-lane.lane)
     c.index-chars-k.is c.in_ok-lane.ensures)
 
-pub returns : goal.returns
-returns c =
-    subst (λ (parts : List Part). IsWeighed c.args.rules.now.version (plain_of c.args.rules.now.way) (mixed_of c.args.rules.now.way)
-    c.args.chars.now (first_weight c.args.rules.now c.args.all.now) parts)
+pub returns-clause-plan : goal.returns-clause-plan
+returns-clause-plan c =
+    let rules = c.args.rules.now in
+    subst (λ (parts : List Part). IsWeighed rules.version (plain_of rules.way) (mixed_of rules.way)
+    c.args.chars.now (weight_from rules.version rules c.args.all.now c.args.start) parts)
     (sym (c.finish.ensures ∙ c.in_ok-close.ensures.parts))
-    (walked c.args.rules.now.version (plain_of c.args.rules.now.way) (mixed_of c.args.rules.now.way) c.args.rules.now c.requires.rules
-    c.args.chars.now c.args.all.now c.loop-k.k c.loop-k.lane c.loop-k.draft c.requires.known (c.loop-k.invariant c.requires.rules) c.loop-k-test.false)
+    (walked rules.version (plain_of rules.way) (mixed_of rules.way) rules c.requires.rules
+    c.args.chars.now c.args.all.now c.args.start c.loop-k.k c.loop-k.lane c.loop-k.draft c.requires.known (c.loop-k.invariant c.requires.rules)
+    c.loop-k-test.false)
+
+pub returns-clause-front : goal.returns-clause-front
+returns-clause-front c =
+    subst (λ (parts : List Part). BeginWith (front_of c.args.start) parts)
+    (sym (c.finish.ensures ∙ c.in_ok-close.ensures.parts))
+    (all_begin (front_of c.args.start) c.loop-k.draft (c.loop-k.invariant c.requires.rules).front)

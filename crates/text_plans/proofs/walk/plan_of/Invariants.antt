@@ -5,4 +5,4 @@ use Rattle.text_plans.proofs.walk.plan_of.Given as goal
 abbrev pub invariant-loop-k : goal.invariant-loop-k
 invariant-loop-k l =
     (are : AreRulesOf l.rules) →
-    IsWalked l.rules.version (plain_of l.rules.way) (mixed_of l.rules.way) l.rules are l.chars l.all l.k l.lane l.draft
+    IsWalked l.rules.version (plain_of l.rules.way) (mixed_of l.rules.way) l.rules are l.chars l.all l.start l.k l.lane l.draft

@@ -1,13 +1,13 @@
 -- The symbols of the first parts are made, and each returns its reading.
-use Rattle.std.proofs.Common.{map, nat_abs}
+use Rattle.std.proofs.Common.{map}
 use Rattle.std.specs.Prelude.{All}
 use Rattle.qrcode_core.specs.Symbol.{modules_of}
 use Rattle.text_sequences.specs.TextPieces.{TellsPieceReading}
 use Rattle.text_sequences.proofs.TextMessages.{AreFirstSymbols}
-use Rattle.text_sequences.proofs.sequence.smallest_text_sequence.Given as goal
+use Rattle.text_sequences.proofs.sequence.symbols_in.Given as goal
 
 abbrev pub invariant-loop-index : goal.invariant-loop-index
 invariant-loop-index l = record {
-  first : AreFirstSymbols l.text l.cuts l.level (nat_abs l.max_version) l.total l.index (map modules_of l.symbols.items);
+  first : AreFirstSymbols l.manner l.text l.cuts l.level l.limit l.total l.index (map modules_of l.symbols.items);
   reading : All TellsPieceReading l.symbols.items;
 }
