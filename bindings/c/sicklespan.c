@@ -591,7 +591,7 @@ const char *sicklespan_status_text(int32_t status) {
     case SICKLESPAN_INVALID_SETTING: return "a setting is out of bounds, or not of the format";
     case SICKLESPAN_INVALID_CONTENT: return "there is no such content";
     case SICKLESPAN_WRONG_VALUE: return "a value is none that its identifier allows";
-    case SICKLESPAN_WRONG_DOMAIN: return "the domain is no host name, with a port or without";
+    case SICKLESPAN_WRONG_DOMAIN: return "the domain is no host name, or its port or path is wrong";
     case SICKLESPAN_NO_KEY: return "no element is the key of a link, as (01), (00) or (414) are";
     case SICKLESPAN_SECOND_KEY: return "a link has one key, and there is another";
     case SICKLESPAN_WRONG_QUALIFIER:

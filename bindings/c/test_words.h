@@ -29,7 +29,7 @@ static void test_words(void) {
         [SICKLESPAN_INVALID_SETTING] = "a setting is out of bounds, or not of the format",
         [SICKLESPAN_INVALID_CONTENT] = "there is no such content",
         [SICKLESPAN_WRONG_VALUE] = "a value is none that its identifier allows",
-        [SICKLESPAN_WRONG_DOMAIN] = "the domain is no host name, with a port or without",
+        [SICKLESPAN_WRONG_DOMAIN] = "the domain is no host name, or its port or path is wrong",
         [SICKLESPAN_NO_KEY] = "no element is the key of a link, as (01), (00) or (414) are",
         [SICKLESPAN_SECOND_KEY] = "a link has one key, and there is another",
         [SICKLESPAN_WRONG_QUALIFIER] = "a qualifier of the key may not stand beside another one",

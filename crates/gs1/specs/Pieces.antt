@@ -1,4 +1,4 @@
--- Which values an identifier has, told apart from the first fault: the joined pieces of its
+-- Which values an identifier has, as a relation beside the first fault: the joined pieces of its
 -- components (GS1 General Specifications, "GS1 Application Identifier definitions").
 use Rattle.std.specs.Prelude.{◌≡◌, ◌⊎◌, ◌↔◌, ℕ, ◌+◌, ◌≤◌, true, List, [], ◌∷◌, ◌++◌, length, None}
 use Rattle.std.specs.List.{AllPass}

@@ -141,9 +141,9 @@ never b is not_is = let h : true ≡ false = sym is ∙ not_is in cc
 
 -- ---- What an error of the elements is for the call
 
-told : (first : Option Refusal) (refusal : Refusal) → is_memory refusal ≡ false → first ≡ Some refusal → IsFaultRefusal first refusal
-told first (call.OutOfMemory) other is = absurd (never true refl other)
-told first refusal other is = is
+of_first : (first : Option Refusal) (refusal : Refusal) → is_memory refusal ≡ false → first ≡ Some refusal → IsFaultRefusal first refusal
+of_first first (call.OutOfMemory) other is = absurd (never true refl other)
+of_first first refusal other is = is
 
 elements_fault : (text domain : List ℕ) (error : CheckError) → link_error text domain ≡ Some (link.Elements error) →
     IsFaultRefusal (link_fault text domain) (table_refusal error)
@@ -151,7 +151,7 @@ elements_fault text domain (table.NoElements) refused = ap (option_map link_refu
 elements_fault text domain (table.InvalidIdentifier element) refused = ap (option_map link_refusal) refused
 elements_fault text domain (table.UnknownIdentifier element identifier) refused = ap (option_map link_refusal) refused
 elements_fault text domain (table.WrongValue element identifier place why) refused =
-    told _ (value_refusal place why) (value_no_memory place why) (ap (option_map link_refusal) refused)
+    of_first _ (value_refusal place why) (value_no_memory place why) (ap (option_map link_refusal) refused)
 elements_fault text domain (table.OutOfMemory) refused = absurd (no_memory text domain refused)
 
 together_fault_of : (text domain : List ℕ) (error : TogetherError) → link_error text domain ≡ Some (link.Together error) →
@@ -193,7 +193,7 @@ table_no_memory (Some error) refusal other is =
 -- The error that tells the first fault of a text that is checked.
 pub checked_failed : (text : List ℕ) (refusal : Refusal) → Some refusal ≡ checked_refusal text → IsFaultRefusal (checked_refusal text) refusal
 checked_failed text refusal is =
-    told (checked_refusal text) refusal
+    of_first (checked_refusal text) refusal
     (one_of (option_map table_refusal (text_error text)) (option_map together_refusal (text_conflict text)) refusal
     (table_no_memory (text_error text) refusal (text_other text))
     (mapped together_refusal is_memory (text_conflict text) refusal together_no_memory) (sym is)) (sym is)

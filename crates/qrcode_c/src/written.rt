@@ -92,7 +92,7 @@ fn checked_string(alloc: Global, text: &str) -> Result<Vec<u8>, Refusal>
 /// where its first fault is.
 fn check_text(text: &str, fault: &mut ElementFault) -> Result<(), Refusal>
     ensures refusal { result_err result ≡ checked_refusal text.now }
-    ensures told { (first : ElementFault) → checked_place text.now ≡ Some first →
+    ensures place { (first : ElementFault) → checked_place text.now ≡ Some first →
         fault.new ≡ first }
 {
     if let Err(error) = values::check_text(text.as_bytes()) {
