@@ -64,7 +64,7 @@ enum sicklespan_status {
     SICKLESPAN_INVALID_SETTING = 22,    /* a setting is out of its bounds, or not of the format */
     SICKLESPAN_INVALID_CONTENT = 23,    /* the content is not 0 to 9 */
     SICKLESPAN_WRONG_VALUE = 24,        /* a value is wrong in another way: no such date, say */
-    SICKLESPAN_WRONG_DOMAIN = 25,       /* the domain is no host name, or its port or path is wrong */
+    SICKLESPAN_WRONG_DOMAIN = 25,  /* the domain is no host name, or its port or path is wrong */
     SICKLESPAN_NO_KEY = 26,             /* no element is the key of a link, as (01) or (00) are */
     SICKLESPAN_SECOND_KEY = 27,         /* an element is a key of links, and another after it */
     SICKLESPAN_WRONG_QUALIFIER = 28,  /* a qualifier of the key may not stand beside another one */
