@@ -53,7 +53,7 @@ fn titled(
 ) -> Result<(), AllocError> {
     let title = words::german(alloc, random, 30)?;
     let settings = Settings {
-        module_mm: Some(50),
+        module_um: Some(500),
         title: Some(title.as_str()),
         ..Settings::default()
     };

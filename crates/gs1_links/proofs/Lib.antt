@@ -5,6 +5,7 @@ pub mod LinkTexts
 pub mod LinkReads
 pub mod LinkKept
 pub mod LinkTogether
+pub mod CapitalLemmas
 pub mod LinkWhole
 pub mod OneLink
 pub mod LinkValues

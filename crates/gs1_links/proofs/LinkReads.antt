@@ -83,11 +83,11 @@ plain_value : (e : Element) → IsLinkable e → ArePlain (percent_text e.value)
 plain_value e good = plain_escaped e.value good.small
 
 -- What a domain is: its characters, and the host before the first slash.
-record IsDomain (domain : List ℕ) : Type 0 where
-  characters : All (λ c. is_domain_character c ≡ true) domain
-  host : is_host (before_first is_slash domain) ≡ true
+pub record IsDomain (domain : List ℕ) : Type 0 where
+  pub characters : All (λ c. is_domain_character c ≡ true) domain
+  pub host : is_host (before_first is_slash domain) ≡ true
 
-domain_is : (domain : List ℕ) → is_domain domain ≡ true → IsDomain domain
+pub domain_is : (domain : List ℕ) → is_domain domain ≡ true → IsDomain domain
 unfolding is_domain
 domain_is domain is =
     let first = both _ _ is in
@@ -220,10 +220,9 @@ cut_at front (e ∷ query) free good =
 -- A reader cuts the link into its parts.
 pub has_parts : (scheme domain : List ℕ) (path query : List Element) → AllPass is_link_character scheme →
     after_scheme (scheme ++ domain ++ flat_map path_text path ++ query_text 0x3f query)
-    ≡ Some (domain ++ flat_map path_text path ++ query_text 0x3f query) → is_domain domain ≡ true → All IsLinkable path →
+    ≡ Some (domain ++ flat_map path_text path ++ query_text 0x3f query) → IsDomain domain → All IsLinkable path →
     All IsLinkable query → HasParts (scheme ++ domain ++ flat_map path_text path ++ query_text 0x3f query) path query
-has_parts scheme domain path query plain_scheme behind is good_path good_query =
-    let good = domain_is domain is in
+has_parts scheme domain path query plain_scheme behind good good_path good_query =
     let front : List ℕ = domain ++ flat_map path_text path in
     let no_question = All-append (λ c. is_question c ≡ false) domain (flat_map path_text path)
     (All-weaker (λ c. is_domain_character c ≡ true) (λ c. is_question c ≡ false) domain_no_question domain good.characters)

@@ -27,13 +27,15 @@ use Rattle.gs1.proofs.Allowed.{none_mapped}
 use Rattle.gs1.proofs.AllowedStrings.{text_tests}
 use Rattle.gs1_links.proofs.LinkElements.{IsLinkable, all_linkable, among_of, holds_of, qualifying, all_qualifying}
 use Rattle.gs1_links.proofs.LinkElements.{all_attributes, no_twins, some_key, key_order}
-use Rattle.gs1_links.proofs.LinkReads.{has_parts}
+use Rattle.gs1_links.proofs.LinkReads.{IsDomain, domain_is, has_parts}
+use Rattle.gs1_links.proofs.CapitalLemmas.{capital_is}
+use Rattle.gs1_links.specs.Capitals.{capital_domain}
 use Rattle.gs1_links.proofs.LinkKept.{all_kept}
 use Rattle.gs1_links.proofs.LinkTogether.{together_same}
 
 elements_read : (scheme domain : List ℕ) (elements : List Element) → AllPass is_link_character scheme →
     after_scheme (link_behind scheme domain elements) ≡ Some (link_behind [] domain elements) →
-    is_domain domain ≡ true → first_error 0 elements ≡ None →
+    IsDomain domain → first_error 0 elements ≡ None →
     no_key_fault elements ≡ None → first_rule_fault (excluded_qualifiers elements) 0 elements ≡ None →
     first_conflict elements 0 elements ≡ None → ReadsLink (link_behind scheme domain elements) (linked elements)
 elements_read scheme domain elements plain behind is table some_one rules together =
@@ -99,17 +101,18 @@ stand_together : (elements : List Element) → together_fault elements ≡ None 
 unfolding together_fault
 stand_together elements none = none_mapped (λ (error : TogetherError). Together error) (first_conflict elements 0 elements) none
 
-read_behind : (text scheme domain : List ℕ) → AllPass is_link_character scheme →
-    after_scheme (link_behind scheme domain (written_elements text)) ≡ Some (link_behind [] domain (written_elements text)) →
-    link_error text domain ≡ None → ReadsLink (link_behind scheme domain (written_elements text)) (linked (written_elements text))
-read_behind text scheme domain plain behind none =
+read_behind : (text scheme domain other : List ℕ) → AllPass is_link_character scheme →
+    after_scheme (link_behind scheme other (written_elements text)) ≡ Some (link_behind [] other (written_elements text)) →
+    (IsDomain domain → IsDomain other) → link_error text domain ≡ None →
+    ReadsLink (link_behind scheme other (written_elements text)) (linked (written_elements text))
+read_behind text scheme domain other plain behind good none =
     let first = neither (text_length_fault text) _ none in
     let second = neither (option_map (λ error. Elements error) (text_error text)) _ first.1 in
     let third = neither (domain_fault domain) (linking_fault (written_elements text)) second.1 in
     let fourth = neither (elements_fault (written_elements text)) (together_fault (written_elements text)) third.1 in
     let table = text_tests text (none_mapped (λ (error : CheckError). Elements error) (text_error text) second.0) in
     let rules = neither (no_key_fault (written_elements text)) _ fourth.0 in
-    elements_read scheme domain (written_elements text) plain behind (right_domain domain third.0) table.1 rules.0 rules.1
+    elements_read scheme other (written_elements text) plain behind (good (domain_is domain (right_domain domain third.0))) table.1 rules.0 rules.1
     (stand_together (written_elements text) fourth.1)
 
 https_behind : (rest : List ℕ) → after_scheme (https ++ rest) ≡ Some rest
@@ -123,14 +126,14 @@ capital_behind rest = refl
 pub link_read : (text domain link : List ℕ) → link_error text domain ≡ None → link ≡ link_of domain (written_elements text) →
     ReadsLink link (linked (written_elements text))
 link_read text domain link none is =
-    rw is (read_behind text https domain (AllPass-from_list_all is_link_character https refl)
-    (https_behind (link_behind [] domain (written_elements text))) none)
+    rw is (read_behind text https domain domain (AllPass-from_list_all is_link_character https refl)
+    (https_behind (link_behind [] domain (written_elements text))) (λ good. good) none)
 
 pub capital_link_read : (text domain link : List ℕ) → link_error text domain ≡ None →
     link ≡ capital_link_of domain (written_elements text) → ReadsLink link (linked (written_elements text))
 capital_link_read text domain link none is =
-    rw is (read_behind text capital_https domain (AllPass-from_list_all is_link_character capital_https refl)
-    (capital_behind (link_behind [] domain (written_elements text))) none)
+    rw is (read_behind text capital_https domain (capital_domain domain) (AllPass-from_list_all is_link_character capital_https refl)
+    (capital_behind (link_behind [] (capital_domain domain) (written_elements text))) (capital_is domain) none)
 
 -- ---- Refusals
 

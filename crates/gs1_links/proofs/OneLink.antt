@@ -1,7 +1,7 @@
 -- No link is read as two lists of elements.
 use Rattle.std.proofs.Common.{◌≡◌, ℕ, ◌+◌, ◌-◌, ◌*◌, ◌<◌, ◌≤◌, Bool, true, false, cond, not, zero, suc, List, [], ◌∷◌, ◌++◌}
 use Rattle.std.proofs.Common.{length, map, drop, refl, arith, ap, sym, subst, ◌∙◌, inl, inr, length-append}
-use Rattle.std.specs.Prelude.{All, None, Some, ◌⊎◌, ◌==◌, ◌||◌, slice_index}
+use Rattle.std.specs.Prelude.{All, None, Some, ◌==◌, ◌||◌}
 use Rattle.std.specs.List.{slice_split, before_first, after_first, list_all}
 use Rattle.std.proofs.lemmas.Grind.{common_steps}
 use Rattle.std.proofs.lemmas.Bool.{cases_lt}

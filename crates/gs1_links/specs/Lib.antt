@@ -1,3 +1,4 @@
+pub mod Capitals
 pub mod Links
 pub mod LinkReader
 pub mod LinkFaults

@@ -10,6 +10,7 @@ use Rattle.gs1.specs.Elements.{Element, written_elements}
 use Rattle.gs1.specs.Values.{number_of_identifier, text_error}
 use Rattle.gs1.specs.Together.{is_among, first_among, first_conflict}
 use Rattle.gs1_base.specs.Percent.{percent_text}
+use Rattle.gs1_links.specs.Capitals.{capital_domain}
 use Rattle.gs1_links.specs.declared.link_error.LinkError.{LinkError}
 use Rattle.gs1_links.specs.declared.link_error.LinkError.TheVariants.{TextTooLong, Elements, WrongDomain}
 use Rattle.gs1_links.specs.declared.link_error.LinkError.TheVariants.{NoKey, SecondKey, WrongQualifier}
@@ -132,10 +133,10 @@ link_behind scheme domain elements =
 abbrev pub link_of : List ℕ → List Element → List ℕ
 link_of domain elements = link_behind https domain elements
 
--- The same behind `HTTPS://`: with a domain of no small letters, the Alphanumeric mode has the link
--- up to the first small letter of a value, or the query.
+-- The same behind `HTTPS://` and with the host in capitals: the Alphanumeric mode has the link up to
+-- the first small letter of a path or a value, or the query.
 abbrev pub capital_link_of : List ℕ → List Element → List ℕ
-capital_link_of domain elements = link_behind capital_https domain elements
+capital_link_of domain elements = link_behind capital_https (capital_domain domain) elements
 
 -- ---- The faults
 

@@ -14,6 +14,7 @@
 //!    (`link_error`).
 #![tactic(auto)]
 
+mod capitals;
 pub mod laws;
 mod link;
 mod link_error;

@@ -13,6 +13,7 @@ ghost use Rattle.gs1_links.specs.Links.{link_behind, capital_link_of};
 ghost use Rattle.gs1_links.specs.Links.{path_elements, primary_key, element_with, is_attribute};
 ghost use Rattle.gs1_links.specs.LinkReader.{ReadsLink};
 
+use crate::capitals::capital_domain;
 use crate::link_error::LinkError;
 use crate::link_rules::{
     check_elements, element_with, is_attribute, key_number, primary_key, qualifier_order,
@@ -65,12 +66,12 @@ pub fn digital_link(alloc: Global, text: &str, domain: &str) -> Result<Vec<u8>, 
     Ok(link)
 }
 
-/// Returns the link of `digital_link` with the scheme `HTTPS://`, which every reader takes for
-/// `https://`, as it takes a host name in capitals for one in small letters (RFC 3986, sections 3.1
-/// and 3.2.2). With a domain of no small letters, such as `ID.GS1.ORG`, the Alphanumeric mode has
-/// the link up to the first small letter of a value, or to the query, and its symbol is often
-/// smaller. The domain stands in the link as it is given: what follows its first slash is a path,
-/// in which small letters and capitals differ.
+/// Returns the link of `digital_link` with its scheme and its host in capitals,
+/// `HTTPS://ID.GS1.ORG/01/09506000134352`, which every reader takes for the same in small letters
+/// (RFC 3986, sections 3.1 and 3.2.2). The Alphanumeric mode has such a link up to the first small
+/// letter of a path or a value, or to the query, so that its symbol is often smaller and never
+/// larger. What follows the first slash of the domain is a path, in which small letters and
+/// capitals differ: it stands as it is given.
 ///
 /// # Errors
 ///
@@ -89,7 +90,8 @@ pub fn capital_link(alloc: Global, text: &str, domain: &str) -> Result<Vec<u8>, 
     let text = text.as_bytes();
     let domain = domain.as_bytes();
     check_link(text, domain)?;
-    let link = link_behind(alloc, b"HTTPS://", text, domain)?;
+    let capitals = capital_domain(alloc, domain)?;
+    let link = link_behind(alloc, b"HTTPS://", text, &capitals)?;
     Ok(link)
 }
 

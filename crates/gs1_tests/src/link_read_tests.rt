@@ -122,7 +122,7 @@ fn reads_back_what_is_written(rt: HostRuntime) {
         let found = read(rt.alloc(), link.as_slice());
         let found = found.expect(&rt, "no elements");
         assert_eq!(rt; found.as_slice(), text.as_bytes());
-        let link = capital_link(rt.alloc(), text, "ID.GS1.ORG/01/Shop").ok();
+        let link = capital_link(rt.alloc(), text, "id.gs1.org/01/Shop").ok();
         let link = link.expect(&rt, "no link in capitals");
         let found = read(rt.alloc(), link.as_slice());
         let found = found.expect(&rt, "no elements of capitals");

@@ -141,16 +141,22 @@ fn writes_links(rt: HostRuntime) {
 }
 
 /// Texts, domains and links in capitals.
-static CAPITAL_LINKS: [(&str, &str, &str); 2] = [
+static CAPITAL_LINKS: [(&str, &str, &str); 3] = [
     (
         "(17)261231(01)09506000134352(10)ABc/",
-        "ID.GS1.ORG",
+        "id.gs1.org",
         "HTTPS://ID.GS1.ORG/01/09506000134352/10/ABc%2F?17=261231",
     ),
     (
         "(00)106141412345678908",
-        "A.EXAMPLE:80/Shop",
-        "HTTPS://A.EXAMPLE:80/Shop/00/106141412345678908",
+        "A.example:80/Shop/x",
+        "HTTPS://A.EXAMPLE:80/Shop/x/00/106141412345678908",
+    ),
+    // The first and the last small letter, and those beside capitals.
+    (
+        "(00)106141412345678908",
+        "az-09.AZ.zyx",
+        "HTTPS://AZ-09.AZ.ZYX/00/106141412345678908",
     ),
 ];
 

@@ -145,7 +145,7 @@ fn draws_unchecked_elements(rt: HostRuntime) {
 
 /// Links are drawn as the bytes that they are. The first is an example of the GS1 Digital Link
 /// Standard: URI Syntax.
-static LINKS: [(&[&str], &[u8], &[u8]); 3] = [
+static LINKS: [(&[&str], &[u8], &[u8]); 5] = [
     (
         &["-f", "pbm", "-c", "link"],
         b"(01)09506000134352(10)ABC1(21)12345(17)180426\n",
@@ -160,6 +160,24 @@ static LINKS: [(&[&str], &[u8], &[u8]); 3] = [
         &["-f", "pbm", "-c", "link", "--domain=x"],
         b"(414)9506000134352(254)32a/b",
         b"https://x/414/9506000134352/254/32a%2Fb",
+    ),
+    (
+        &["-f", "pbm", "-c", "link", "--upper"],
+        b"(01)09506000134352(10)ABC",
+        b"HTTPS://ID.GS1.ORG/01/09506000134352/10/ABC",
+    ),
+    (
+        &[
+            "-f",
+            "pbm",
+            "-c",
+            "link",
+            "--upper",
+            "--domain",
+            "example.com/shop",
+        ],
+        b"(00)106141412345678908",
+        b"HTTPS://EXAMPLE.COM/shop/00/106141412345678908",
     ),
 ];
 
@@ -205,6 +223,10 @@ fn says_the_version_of_the_other_way(rt: HostRuntime) {
     let words = ["--info", "-c", "link", "--max-version", "2"];
     let details = ran(rt.alloc(), &words, b"(01)09506000134352");
     assert!(rt; details.status == 1);
+    // In capitals 22 characters of the Alphanumeric mode take 134 bits.
+    let words = ["--info", "-c", "link", "--upper", "--max-version", "2"];
+    let details = ran(rt.alloc(), &words, b"(01)09506000134352");
+    assert!(rt; details.status == 0 && details.label.starts_with(b"version 2, "));
     let words = ["--info", "-c", "gs1", "--max-version", "2"];
     let details = ran(rt.alloc(), &words, b"(01)09506000134352");
     assert!(rt; details.label.ends_with(b" modules\nas a link: too long\n"));

@@ -143,8 +143,9 @@ fn trims_a_text(rt: HostRuntime) {
 }
 
 /// A size in millimetres and a resolution give the scale, in whole dots: of 0.5 mm 6 at 300 dots an
-/// inch (0.5 * 300 / 25.4 = 5.9), and 4 at 203 (4.0 - 0.004). PNG has the resolution, too.
-static DOTS: [(&[&str], &[&str]); 3] = [
+/// inch (0.5 * 300 / 25.4 = 5.9), and 4 at 203 (4.0 - 0.004). PNG has the resolution, too. 8 dots a
+/// millimetre are 203.2 an inch, so that 0.495 mm have 4 (3.96) and 0.743 mm have 6 (5.94).
+static DOTS: [(&[&str], &[&str]); 6] = [
     (
         &["-f", "zpl", "--module-mm", "0.5", "--dpi", "300"],
         &["-f", "zpl", "-s", "6"],
@@ -157,6 +158,18 @@ static DOTS: [(&[&str], &[&str]); 3] = [
         &["-f", "png", "--module-mm", "0.5", "--dpi", "300"],
         &["-f", "png", "-s", "6", "--dpi", "300"],
     ),
+    (
+        &["-f", "zpl", "--module-mm", "0.495", "--dpmm", "8"],
+        &["-f", "zpl", "-s", "4"],
+    ),
+    (
+        &["-f", "escpos", "--module-mm", "0.743", "--dpi", "203.2"],
+        &["-f", "escpos", "-s", "6"],
+    ),
+    (
+        &["-f", "png", "--module-mm", "0.125", "--dpmm", "8"],
+        &["-f", "png", "-s", "1", "--dpi", "203.2"],
+    ),
 ];
 
 #[test]
@@ -167,6 +180,40 @@ fn draws_in_dots(rt: HostRuntime) {
             "{words:?}"
         );
     }
+}
+
+/// What is said of modules of whole dots: nothing, unless they differ by more than 5 in 100 from what
+/// was asked for. At 8 dots a millimetre 0.357 to 0.395 mm are 3 dots, of 0.375 mm: 5.04 in 100 more
+/// and 5.06 less at the ends.
+static WIDTHS: [(&str, &str); 4] = [
+    (
+        "0.357",
+        "qrlabel: in whole dots a module is 0.375 mm wide, and not 0.357 mm\n",
+    ),
+    ("0.358", ""),
+    ("0.394", ""),
+    (
+        "0.395",
+        "qrlabel: in whole dots a module is 0.375 mm wide, and not 0.395 mm\n",
+    ),
+];
+
+#[test]
+fn says_another_width(rt: HostRuntime) {
+    for (module, said) in WIDTHS.iter() {
+        let words = ["-f", "zpl", "--dpmm", "8", "--module-mm", module];
+        assert!(rt;
+            ran(rt.alloc(), &words, b"hello").has_said(0, said),
+            "{module}"
+        );
+    }
+    // Where there is no label, that alone is said.
+    let words = ["-f", "zpl", "--dpmm", "8", "--module-mm", "0.395"];
+    let answer = ran(rt.alloc(), &words, b"");
+    assert!(rt; answer.has_reported(1, "empty input, see --allow-empty"));
+    // In a format without dots it is the width that was asked for.
+    let answer = ran(rt.alloc(), &["-f", "eps", "--module-mm", "0.395"], b"hello");
+    assert!(rt; answer.has_said(0, ""));
 }
 
 /// A PDF document of one page (ISO 32000-1, 7.5.2 and 7.5.5: its first line, and its last).

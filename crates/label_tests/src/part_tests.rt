@@ -168,7 +168,7 @@ fn turns_symbols(rt: HostRuntime) {
 
 /// The details of a symbol. Versions and segments are computed by hand from ISO/IEC 18004:2006,
 /// "Data encodation"; the masks are those that the Rust crate `qrcode-core` 2.2.0 chooses.
-static DETAILS: [(&[&str], &[u8], &str); 10] = [
+static DETAILS: [(&[&str], &[u8], &str); 11] = [
     (
         &[],
         b"hello",
@@ -177,17 +177,22 @@ static DETAILS: [(&[&str], &[u8], &str); 10] = [
     (
         &["--module-mm", "0.5"],
         b"0123456789",
-        "version 1, level M, mask 0, segments numeric 10, 21 modules, 10.50 mm",
+        "version 1, level M, mask 0, segments numeric 10, 21 modules of 0.500 mm, 10.500 mm",
     ),
     (
         &["-l", "q", "-f", "png", "--dpi", "300", "-s", "4"],
         b"HELLO\n",
-        "version 1, level Q, mask 5, segments alphanumeric 5, 21 modules, 7.11 mm",
+        "version 1, level Q, mask 5, segments alphanumeric 5, 21 modules of 0.339 mm, 7.112 mm",
     ),
     (
         &["-f", "zpl", "--module-mm", "0.5", "--dpi", "203"],
         b"hello",
-        "version 1, level M, mask 7, segments byte 5, 21 modules, 10.51 mm",
+        "version 1, level M, mask 7, segments byte 5, 21 modules of 0.500 mm, 10.510 mm",
+    ),
+    (
+        &["-f", "zpl", "--module-mm", "0.38", "--dpmm", "8"],
+        b"hello",
+        "version 1, level M, mask 7, segments byte 5, 21 modules of 0.375 mm, 7.875 mm",
     ),
     (
         &["-f", "png"],

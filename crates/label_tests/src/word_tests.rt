@@ -10,11 +10,17 @@ with -f any name, else one that ends with .txt, .svg, .png, .pbm, .eps, .pdf, .e
 for --lines and --split alone with a number, %d or %0Nd, N from 1 to 9";
 
 /// The lines for a scale and a size that are wrong.
-const SCALE: &str = "1 to 64, and not with both --module-mm and --dpi";
+const SCALE: &str = "1 to 64, and not with both --module-mm and --dpi or --dpmm";
 
 const MODULE: &str = "\
-0.05 to 10, at most two decimals, for svg, png, eps and pdf; with --dpi for png, zpl and escpos, \
-1 to 64 whole dots";
+0.05 to 10, at most three decimals, for svg, png, eps and pdf; with --dpi or --dpmm for png, zpl \
+and escpos, 1 to 64 whole dots";
+
+/// The lines for resolutions that are wrong.
+const DPI: &str =
+    "50 to 2400, at most one decimal, for png; with --module-mm for zpl and escpos, too";
+
+const DPMM: &str = "2 to 94, not with --dpi, for png; with --module-mm for zpl and escpos, too";
 
 /// What colors can be.
 const DARK: &str =
@@ -157,22 +163,42 @@ const HRI: &str = "with -c gs1, gs1-unchecked or link, for terminal, svg, eps an
 const NO_KANJI: &str = "with -c bytes";
 
 /// The same of values of options.
-static WRONG_VALUES: [Wrong; 47] = [
+static WRONG_VALUES: [Wrong; 55] = [
+    (&["--upper"], "invalid --upper: ", "with -c link"),
     (&["--inverted"], "invalid --inverted: ", "for terminal"),
-    (
-        &["--dpi", "300"],
-        "invalid --dpi '300': ",
-        "50 to 2400, for png; with --module-mm for zpl and escpos, too",
-    ),
+    (&["--dpi", "300"], "invalid --dpi '300': ", DPI),
     (
         &["--module-mm", "0.04"],
         "invalid --module-mm '0.04': ",
         MODULE,
     ),
     (
-        &["--module-mm", "0.333"],
-        "invalid --module-mm '0.333': ",
+        &["--module-mm", "0.3333"],
+        "invalid --module-mm '0.3333': ",
         MODULE,
+    ),
+    (
+        &["-f", "png", "--dpi", "203.25"],
+        "invalid --dpi '203.25': ",
+        DPI,
+    ),
+    (&["-f", "png", "--dpmm", "1"], "invalid --dpmm '1': ", DPMM),
+    (
+        &["-f", "png", "--dpmm", "95"],
+        "invalid --dpmm '95': ",
+        DPMM,
+    ),
+    (
+        &["-f", "png", "--dpmm", "8.5"],
+        "invalid --dpmm '8.5': ",
+        DPMM,
+    ),
+    (&["-f", "svg", "--dpmm", "8"], "invalid --dpmm '8': ", DPMM),
+    (&["-f", "zpl", "--dpmm", "8"], "invalid --dpmm '8': ", DPMM),
+    (
+        &["-f", "png", "--dpmm", "8", "--dpi", "203.2"],
+        "invalid --dpmm '8': ",
+        DPMM,
     ),
     (
         &["-f", "zpl", "--module-mm", "0.05", "--dpi", "203"],
@@ -187,7 +213,7 @@ static WRONG_VALUES: [Wrong; 47] = [
     (
         &["-f", "png", "--module-mm", "1", "--dpi", "2401"],
         "invalid --dpi '2401': ",
-        "50 to 2400, for png; with --module-mm for zpl and escpos, too",
+        DPI,
     ),
     (
         &["-f", "png", "--module-mm", "1", "--dpi", "203", "-s", "4"],
@@ -197,7 +223,7 @@ static WRONG_VALUES: [Wrong; 47] = [
     (
         &["-f", "svg", "--module-mm", "1", "--dpi", "203"],
         "invalid --dpi '203': ",
-        "50 to 2400, for png; with --module-mm for zpl and escpos, too",
+        DPI,
     ),
     (
         &["--at", "1"],

@@ -36,8 +36,8 @@ abbrev pub wishes_of : Settings → Wishes
 wishes_of s = record {
   scale = s.scale;
   quiet = s.quiet;
-  module_mm = s.module_mm;
-  dpi = s.dpi;
+  module_um = s.module_um;
+  dpi_tenths = s.dpi_tenths;
   inverted = s.inverted;
   title = option_copied s.title;
   caption = option_copied s.caption;
@@ -71,6 +71,7 @@ abbrev pub label_of : Drawn → Label
 label_of drawn = record {
   content = drawn.content;
   domain = drawn.domain.now;
+  upper = drawn.upper;
   symbol = drawn.symbol;
   format = drawn.format;
   wishes = wishes_of drawn.settings;
@@ -84,7 +85,8 @@ label_of drawn = record {
   colored = drawn.colored;
   turn = drawn.turn;
   details = drawn.details;
-  dpi = drawn.dpi;
+  dpi_tenths = drawn.dpi_tenths;
+  asked_um = drawn.asked_um;
   hri = drawn.hri;
 }
 

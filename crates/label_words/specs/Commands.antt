@@ -5,12 +5,14 @@ use Rattle.std.specs.Prelude.{List, Option, None, Some, option_and_then, unwrap_
 use Rattle.qrcode_core.specs.declared.options.SymbolOptions.{SymbolOptions}
 use Rattle.qrcode_core.specs.declared.types.EcLevel.{EcLevel, TheVariants.M, TheVariants.H}
 use Rattle.picture_settings.specs.declared.bounds.TheConstants.{MICRO_QUIET, MIN_SCALE, MAX_SCALE}
-use Rattle.picture_settings.specs.declared.bounds.TheConstants.{MIN_DPI, MAX_DPI, MIN_MODULE_MM, MAX_MODULE_MM}
+use Rattle.picture_settings.specs.declared.bounds.TheConstants.{MIN_DPI_TENTHS, MAX_DPI_TENTHS}
+use Rattle.picture_settings.specs.declared.bounds.TheConstants.{MIN_MODULE_UM, MAX_MODULE_UM}
 use Rattle.picture_settings.specs.ColorWords.{word_color, ground_word}
 use Rattle.picture_settings.specs.declared.colors.{Colors.Colors, Ground.Ground, Rgb.Rgb}
 use Rattle.picture_settings.specs.declared.format.Format.{Format as FormatOf}
 use Rattle.picture_settings.specs.declared.format.Format.TheVariants.{Terminal, Svg}
 use Rattle.label_words.specs.declared.command.TheConstants.{MAX_FIRST}
+use Rattle.label_words.specs.declared.settings.TheConstants.{MIN_DPMM, MAX_DPMM}
 use Rattle.label_words.specs.declared.command.Content.{Content as ContentOf}
 use Rattle.label_words.specs.declared.command.Content.TheVariants.{Auto, Bytes, BytesWithoutKanji, MicroBytes}
 use Rattle.label_words.specs.declared.words.Name.{Name}
@@ -21,7 +23,7 @@ use Rattle.label_words.specs.declared.words.Name.TheVariants.{Output, AllowEmpty
 use Rattle.label_words.specs.declared.words.Name.TheVariants.{First, KeepGoing, KeepNewline}
 use Rattle.label_words.specs.declared.command.{Details.Details, Turn.Turn, Turn.TheVariants.Upright}
 use Rattle.label_words.specs.declared.words.Name.TheVariants.{Copies, Compressed, Feed, Cut, Rotate}
-use Rattle.label_words.specs.declared.words.Name.TheVariants.{Dark, Light, AnyColors, Domain, Hri, NoKanji}
+use Rattle.label_words.specs.declared.words.Name.TheVariants.{Dark, Light, AnyColors, Domain, Hri, NoKanji, Dpmm, Upper}
 use Rattle.label_words.specs.Choices.{level_named, content_named, turn_named, format_named, format_of_ending}
 use Rattle.label_words.specs.Choices.{is_link, is_micro_content, is_drawn_in_dots, has_elements, is_png, is_terminal}
 use Rattle.gs1_base.specs.Domains.{is_domain}
@@ -29,7 +31,7 @@ use Rattle.label_words.specs.Portions.{Portion, portion_asked, terminal_asked, d
 use Rattle.picture_settings.specs.Formats.{has_caption}
 use Rattle.picture_settings.specs.Xml.{is_xml_text}
 use Rattle.programs.specs.Quotes.{has_control}
-use Rattle.picture_settings.specs.OptionWords.{word_number, word_hundredths, word_position}
+use Rattle.picture_settings.specs.OptionWords.{word_number, word_position, word_tenths, word_thousandths}
 use Rattle.label_words.specs.Words.{Values, value_of, file_of, is_given, Wrong, invalid}
 
 infixl 20 ◌>>=◌
@@ -84,6 +86,11 @@ domain_asked content values =
       | None ↦ Ok (codes "id.gs1.org")
     ]
 
+-- Whether the scheme and the host of a link are in capitals.
+abbrev pub upper_asked : ContentOf → Values → Result Bool Wrong
+upper_asked content values =
+    if is_given values Upper && not (is_link content) then Err (invalid Upper) else Ok (is_given values Upper)
+
 abbrev pub turn_asked : Values → Result Turn Wrong
 turn_asked = asked_or turn_named Upright Rotate
 
@@ -110,9 +117,25 @@ version_asked name default = asked_or version_in default name
 abbrev pub number_asked : Name → Values → Result (Option ℕ) Wrong
 number_asked = asked word_number
 
--- The size of a module in hundredths of a millimetre.
+-- The width of a module in micrometres.
 abbrev pub module_asked : Values → Result (Option ℕ) Wrong
-module_asked = asked word_hundredths ModuleMm
+module_asked = asked word_thousandths ModuleMm
+
+-- The dots of ten inches, of which each is 25.4 mm, by those of a millimetre.
+abbrev pub dpmm_in : List ℕ → Option ℕ
+dpmm_in word =
+    elim (word_number word) [
+      | Some n ↦ (if nat_le MIN_DPMM n && nat_le n MAX_DPMM then Some (254 * n) else None)
+      | None ↦ None
+    ]
+
+-- The dots of ten inches. Those of an inch and those of a millimetre are not given together.
+abbrev pub dpi_asked : Values → Result (Option ℕ) Wrong
+dpi_asked values =
+    elim (value_of values Dpmm) [
+      | Some word ↦ (if is_given values Dpi then Err (invalid Dpmm) else some_found (dpmm_in word) Dpmm)
+      | None ↦ asked word_tenths Dpi values
+    ]
 
 abbrev pub place_asked : Values → Result (Option (ℕ × ℕ)) Wrong
 place_asked = asked word_position At
@@ -137,8 +160,8 @@ title_asked = asked title_in Title
 pub record Wishes : Type 0 where
   pub scale : Option ℕ
   pub quiet : Option ℕ
-  pub module_mm : Option ℕ
-  pub dpi : Option ℕ
+  pub module_um : Option ℕ
+  pub dpi_tenths : Option ℕ
   pub inverted : Bool
   pub title : Option (List ℕ)
   pub caption : Option (List ℕ)
@@ -155,8 +178,8 @@ abbrev pub settings_asked : Values → Result Wishes Wrong
 settings_asked values = do
   scale ← number_asked Scale values
   quiet ← number_asked Quiet values
-  module_mm ← module_asked values
-  dpi ← number_asked Dpi values
+  module_um ← module_asked values
+  dpi_tenths ← dpi_asked values
   title ← title_asked values
   at ← place_asked values
   copies ← number_asked Copies values
@@ -166,8 +189,8 @@ settings_asked values = do
   Ok (record {
     scale = scale;
     quiet = quiet;
-    module_mm = module_mm;
-    dpi = dpi;
+    module_um = module_um;
+    dpi_tenths = dpi_tenths;
     inverted = is_given values Inverted;
     title = title;
     caption = None;
@@ -194,31 +217,34 @@ zoned content wishes =
 abbrev pub scale_of : ℕ → Result ℕ Wrong
 scale_of dots = if nat_le MIN_SCALE dots && nat_le dots MAX_SCALE then Ok dots else Err (invalid ModuleMm)
 
--- The number of whole dots that is nearest to the size of a module, in hundredths of a millimetre,
--- at a resolution in dots of an inch, which is 25.4 mm. A half is rounded up.
+-- The number of whole dots that is nearest to the width of a module, in micrometres, at a
+-- resolution in dots of ten inches, of which each is 25.4 mm. A half is rounded up.
 abbrev pub dots_asked : ℕ → ℕ → Result ℕ Wrong
-dots_asked module_mm dpi =
-    if not (nat_le MIN_DPI dpi && nat_le dpi MAX_DPI) then Err (invalid Dpi)
-    else (if not (nat_le MIN_MODULE_MM module_mm && nat_le module_mm MAX_MODULE_MM) then Err (invalid ModuleMm)
-    else scale_of ((module_mm * dpi + 1270) / 2540))
+dots_asked module_um dpi_tenths =
+    if not (nat_le MIN_DPI_TENTHS dpi_tenths && nat_le dpi_tenths MAX_DPI_TENTHS) then Err (invalid Dpi)
+    else (if not (nat_le MIN_MODULE_UM module_um && nat_le module_um MAX_MODULE_UM) then Err (invalid ModuleMm)
+    else scale_of ((module_um * dpi_tenths + 127000) / 254000))
 
 -- The scale that a size and a resolution give, where they are given for a format of dots.
 abbrev pub with_dots : FormatOf → ℕ → ℕ → Wishes → Result Wishes Wrong
-with_dots format module_mm dpi wishes =
+with_dots format module_um dpi_tenths wishes =
     if not (is_drawn_in_dots format) then Ok wishes
     else (if is_some wishes.scale then Err (invalid Scale)
-    else (dots_asked module_mm dpi >>= (λ dots. Ok (record wishes {
+    else (dots_asked module_um dpi_tenths >>= (λ dots. Ok (record wishes {
       scale = Some dots;
-      module_mm = None;
-      dpi = if is_png format then Some dpi else None;
+      module_um = None;
+      dpi_tenths = if is_png format then Some dpi_tenths else None;
     }))))
 
 -- The wishes with the whole dots that a module of a size in millimetres has at a resolution.
 -- Example: 0.5 mm has 5 dots at 300 dots an inch.
 abbrev pub in_dots : FormatOf → Wishes → Result Wishes Wrong
 in_dots format wishes =
-    elim wishes.module_mm [
-      | Some module_mm ↦ elim wishes.dpi [ Some dpi ↦ with_dots format module_mm dpi wishes | None ↦ Ok wishes ]
+    elim wishes.module_um [
+      | Some module_um ↦ elim wishes.dpi_tenths [
+        | Some dpi_tenths ↦ with_dots format module_um dpi_tenths wishes
+        | None ↦ Ok wishes
+      ]
       | None ↦ Ok wishes
     ]
 
@@ -287,15 +313,17 @@ abbrev pub colored_asked : Bool → FormatOf → Values → Bool
 colored_asked on_terminal format values =
     on_terminal && (is_terminal format && (not (is_given values Output) && not (is_given values Inverted)))
 
--- A label: what its symbol says, the domain of a link, how the symbol is chosen, its picture,
--- whether an input with no bytes is drawn, whether a text is trimmed, what of the input the label
--- shows, the number of the first line, whether a line that has no label is left out, how errors
--- call the input and the output, whether a text for a terminal has colors of its own, by how much
--- the symbol is turned, whether its details are written, the dots of an inch, and whether the
--- elements are written below the symbol.
+-- A label: what its symbol says, the domain of a link and whether its host is in capitals, how the
+-- symbol is chosen, its picture, whether an input with no bytes is drawn, whether a text is trimmed,
+-- what of the input the label shows, the number of the first line, whether a line that has no label
+-- is left out, how errors call the input and the output, whether a text for a terminal has colors of
+-- its own, by how much the symbol is turned, whether its details are written, the dots of ten
+-- inches, the width of a module in micrometres that is asked for, and whether the elements are
+-- written below the symbol.
 pub record Label : Type 0 where
   pub content : ContentOf
   pub domain : List ℕ
+  pub upper : Bool
   pub symbol : SymbolOptions
   pub format : FormatOf
   pub wishes : Wishes
@@ -309,13 +337,15 @@ pub record Label : Type 0 where
   pub colored : Bool
   pub turn : Turn
   pub details : Details
-  pub dpi : Option ℕ
+  pub dpi_tenths : Option ℕ
+  pub asked_um : Option ℕ
   pub hri : Bool
 
 abbrev pub label_asked : Bool → Values → Result Label Wrong
 label_asked on_terminal values = do
   content ← content_asked values
   domain ← domain_asked content values
+  upper ← upper_asked content values
   symbol ← symbol_asked values
   micro ← micro_asked content symbol.level values
   format ← format_asked on_terminal values
@@ -331,6 +361,7 @@ label_asked on_terminal values = do
   Ok (record {
     content = content;
     domain = domain;
+    upper = upper;
     symbol = symbol;
     format = format;
     wishes = zoned content wishes;
@@ -344,7 +375,8 @@ label_asked on_terminal values = do
     colored = colored_asked on_terminal format values;
     turn = turn;
     details = details;
-    dpi = given.dpi;
+    dpi_tenths = given.dpi_tenths;
+    asked_um = given.module_um;
     hri = hri;
   })
 

@@ -9,7 +9,7 @@ use Rattle.label_words.specs.declared.words.Name.TheVariants.{Output, AllowEmpty
 use Rattle.label_words.specs.declared.words.Name.TheVariants.{First, KeepGoing, KeepNewline}
 use Rattle.label_words.specs.declared.words.Name.TheVariants.{Copies, Compressed, Feed, Cut, Split, Rotate}
 use Rattle.label_words.specs.declared.words.Name.TheVariants.{Verbose, Info, Dark, Light, AnyColors, Domain}
-use Rattle.label_words.specs.declared.words.Name.TheVariants.{Hri, NoKanji}
+use Rattle.label_words.specs.declared.words.Name.TheVariants.{Hri, NoKanji, Dpmm, Upper}
 use Rattle.label_words.specs.Words.{Wrong, unknown, no_value, second_text, invalid}
 use Rattle.label_words.specs.Words.{long_title, needs_stream, needs_file}
 
@@ -19,6 +19,7 @@ picture_word Scale = codes "--scale"
 picture_word Quiet = codes "--quiet"
 picture_word ModuleMm = codes "--module-mm"
 picture_word Dpi = codes "--dpi"
+picture_word Dpmm = codes "--dpmm"
 picture_word Inverted = codes "--inverted"
 picture_word Title = codes "--title"
 picture_word At = codes "--at"
@@ -56,13 +57,21 @@ option_word Verbose = codes "--verbose"
 option_word Info = codes "--info"
 option_word Domain = codes "--domain"
 option_word NoKanji = codes "--no-kanji"
+option_word Upper = codes "--upper"
 option_word name = picture_word name
 
 -- What the size of a module can be.
 abbrev pub module_text : List ℕ
 module_text =
-    codes "0.05 to 10, at most two decimals, for svg, png, eps and pdf; "
-    ++ codes "with --dpi for png, zpl and escpos, 1 to 64 whole dots"
+    codes "0.05 to 10, at most three decimals, for svg, png, eps and pdf; "
+    ++ codes "with --dpi or --dpmm for png, zpl and escpos, 1 to 64 whole dots"
+
+-- What the number of dots of an inch and of a millimetre can be.
+abbrev pub dpi_text : List ℕ
+dpi_text = codes "50 to 2400, at most one decimal, for png; with --module-mm for zpl and escpos, too"
+
+abbrev pub dpmm_text : List ℕ
+dpmm_text = codes "2 to 94, not with --dpi, for png; with --module-mm for zpl and escpos, too"
 
 -- What the name of the output can be.
 abbrev pub output_text : List ℕ
@@ -92,10 +101,11 @@ values_text Domain = codes "a host name, or with a port or a path, and with -c l
 values_text Strongest = codes "not for a Micro symbol"
 values_text MinVersion = codes "1 to 40, not for a Micro symbol"
 values_text MaxVersion = codes "1 to 40, at least --min-version, not for a Micro symbol"
-values_text Scale = codes "1 to 64, and not with both --module-mm and --dpi"
+values_text Scale = codes "1 to 64, and not with both --module-mm and --dpi or --dpmm"
 values_text Quiet = codes "0 to 16"
 values_text ModuleMm = module_text
-values_text Dpi = codes "50 to 2400, for png; with --module-mm for zpl and escpos, too"
+values_text Dpi = dpi_text
+values_text Dpmm = dpmm_text
 values_text Inverted = codes "for terminal"
 values_text Title = codes "a text without control characters, for svg, png, eps and pdf"
 values_text At = codes "X,Y, each 0 to 18000, for zpl"
@@ -117,6 +127,7 @@ values_text Light = light_text
 values_text AnyColors = codes "for svg, png, eps and pdf"
 values_text Hri = codes "with -c gs1, gs1-unchecked or link, for terminal, svg, eps and zpl"
 values_text NoKanji = codes "with -c bytes"
+values_text Upper = codes "with -c link"
 values_text _ = []
 
 -- Where help is, on a line of its own.

@@ -16,11 +16,11 @@ use Rattle.picture_settings.specs.declared.settings.Setting.TheVariants.{Caption
 use Rattle.std.specs.Prelude.{if◌then◌else◌}
 use Rattle.picture_settings.specs.declared.format.Format.{Format}
 use Rattle.picture_settings.specs.Formats.{has_title}
-use Rattle.label_words.specs.Words.{Wrong, invalid, long_title}
+use Rattle.label_words.specs.Words.{Values, Wrong, invalid, is_given, long_title}
 use Rattle.label_words.specs.declared.words.Name.{Name}
 use Rattle.label_words.specs.declared.words.Name.TheVariants.{Scale, Quiet, ModuleMm, Dpi, Inverted}
 use Rattle.label_words.specs.declared.words.Name.TheVariants.{Title, At, Copies, Compressed, Feed, Cut}
-use Rattle.label_words.specs.declared.words.Name.TheVariants.{Dark, Light, AnyColors, Hri}
+use Rattle.label_words.specs.declared.words.Name.TheVariants.{Dark, Light, AnyColors, Hri, Dpmm}
 
 -- The option that gives a setting.
 abbrev pub setting_option : Setting → Name
@@ -41,7 +41,8 @@ setting_option LightOf = Light
 setting_option AnyColorsOf = AnyColors
 
 -- What is wrong with the words where a setting is not valid in a format: an option, or the length of
--- a title, of which all else was tested before.
-abbrev pub setting_wrong : Format → Setting → Wrong
-setting_wrong format TitleOf = if has_title format then long_title else invalid Title
-setting_wrong format setting = invalid (setting_option setting)
+-- a title, of which all else was tested before. A resolution stands in one of two options.
+abbrev pub setting_wrong : Values → Format → Setting → Wrong
+setting_wrong values format TitleOf = if has_title format then long_title else invalid Title
+setting_wrong values format DpiOf = invalid (if is_given values Dpmm then Dpmm else Dpi)
+setting_wrong values format setting = invalid (setting_option setting)

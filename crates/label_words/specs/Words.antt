@@ -13,7 +13,7 @@ use Rattle.label_words.specs.declared.words.Name.TheVariants.{Output, AllowEmpty
 use Rattle.label_words.specs.declared.words.Name.TheVariants.{First, KeepGoing, KeepNewline}
 use Rattle.label_words.specs.declared.words.Name.TheVariants.{Copies, Compressed, Feed, Cut, Split, Rotate}
 use Rattle.label_words.specs.declared.words.Name.TheVariants.{Verbose, Info, Dark, Light, AnyColors, Domain}
-use Rattle.label_words.specs.declared.words.Name.TheVariants.{Hri, NoKanji}
+use Rattle.label_words.specs.declared.words.Name.TheVariants.{Hri, NoKanji, Dpmm, Upper}
 
 -- What a table has for a word.
 abbrev pub value_among : {A : Type 0} → List (List ℕ × A) → List ℕ → Option A
@@ -28,6 +28,7 @@ names =
     ∷ (codes "-c", Content) ∷ (codes "--content", Content)
     ∷ (codes "--no-kanji", NoKanji)
     ∷ (codes "--domain", Domain)
+    ∷ (codes "--upper", Upper)
     ∷ (codes "-l", Level) ∷ (codes "--level", Level)
     ∷ (codes "--strongest", Strongest)
     ∷ (codes "--min-version", MinVersion)
@@ -54,6 +55,7 @@ picture_names =
     ∷ (codes "-q", Quiet) ∷ (codes "--quiet", Quiet)
     ∷ (codes "--module-mm", ModuleMm)
     ∷ (codes "--dpi", Dpi)
+    ∷ (codes "--dpmm", Dpmm)
     ∷ (codes "--inverted", Inverted)
     ∷ (codes "--title", Title)
     ∷ (codes "--at", At)
@@ -114,6 +116,8 @@ option_number AnyColors = 33
 option_number Domain = 34
 option_number Hri = 35
 option_number NoKanji = 36
+option_number Dpmm = 37
+option_number Upper = 38
 
 -- Whether the next word is the value of the option.
 abbrev pub takes_value : Name → Bool
@@ -131,6 +135,7 @@ takes_value Info = false
 takes_value AnyColors = false
 takes_value Hri = false
 takes_value NoKanji = false
+takes_value Upper = false
 takes_value Help = false
 takes_value Version = false
 takes_value _ = true

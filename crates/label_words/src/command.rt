@@ -9,17 +9,16 @@ ghost use Rattle.label_words.specs.Commands.{level_asked, content_asked, kind_as
 ghost use Rattle.label_words.specs.Commands.{symbol_asked, micro_asked, is_trimmed};
 ghost use Rattle.label_words.specs.Choices.{is_micro_content};
 ghost use Rattle.label_words.specs.Commands.{first_asked, keeps_going_asked, trims_asked};
-ghost use Rattle.label_words.specs.Commands.{turn_asked, domain_asked};
-ghost use Rattle.label_words.specs.Commands.{colored_asked, label_asked, command_asked};
+ghost use Rattle.label_words.specs.Commands.{turn_asked, colored_asked, label_asked, command_asked};
 ghost use Rattle.label_words.specs.Words.{file_of};
-ghost use Rattle.label_words.specs.CommandOutcomes.{outcome, text_outcome, label_outcome, command_outcome};
+ghost use Rattle.label_words.specs.CommandOutcomes.{outcome, label_outcome, command_outcome};
 
 use crate::choices::{content_named, format_named, format_of_ending, level_named, turn_named};
+use crate::link_words::{domain_of, upper_of};
 use crate::names::Numbering;
 use crate::portion::{check_terminal, details_of, portion_of};
 use crate::settings::{hri_of, in_dots, settings_of, zoned};
 use crate::words::{Misuse, Name, Values};
-use gs1_base::domain::is_domain;
 use picture_settings::format::Format;
 use picture_settings::option_words::number_of_word;
 use picture_settings::settings::Settings;
@@ -94,6 +93,8 @@ pub struct Label<'a> {
     pub content: Content,
     /// The domain of a link.
     pub domain: &'a str,
+    /// Whether the scheme and the host of a link are in capitals.
+    pub upper: bool,
     pub symbol: SymbolOptions,
     pub format: Format,
     pub settings: Settings<'a>,
@@ -116,14 +117,13 @@ pub struct Label<'a> {
     pub turn: Turn,
     /// Where the details of its symbol are written.
     pub details: Details,
-    /// The dots of an inch, if they are given.
-    pub dpi: Option<usize>,
+    /// The dots of ten inches, if they are given.
+    pub dpi_tenths: Option<usize>,
+    /// The width of a module in micrometres, if it is given. Modules of whole dots may have another.
+    pub asked_um: Option<usize>,
     /// Whether the elements are written below the symbol.
     pub hri: bool,
 }
-
-/// The domain of a link for which the words give none, the resolver of GS1.
-const DOMAIN: &str = "id.gs1.org";
 
 /// The greatest number of a first line.
 pub const MAX_FIRST: usize = 1_000_000_000;
@@ -276,18 +276,6 @@ fn is_trimmed(content: Content) -> bool
     }
 }
 
-/// Returns the domain of a link, which is a host name, or with a port or a path, or the default.
-/// Other contents have none.
-fn domain_of<'a>(values: &Values<'a>, content: Content) -> Result<&'a str, Misuse<'a>>
-    ensures { text_outcome result ≡ domain_asked content (said values.now) }
-{
-    match values.get(Name::Domain) {
-        Some(domain) if content == Content::Link && is_domain(domain.as_bytes()) => Ok(domain),
-        Some(_) => Err(Misuse::Invalid(Name::Domain)),
-        None => Ok(DOMAIN),
-    }
-}
-
 /// Returns the number of the first line, or 1.
 fn first_of<'a>(values: &Values<'a>) -> Result<usize, Misuse<'a>>
     ensures { outcome result ≡ first_asked (said values.now) }
@@ -345,6 +333,7 @@ fn label_of<'a>(values: &Values<'a>, on_terminal: bool) -> Result<Label<'a>, Mis
 {
     let content = content_of(values)?;
     let domain = domain_of(values, content)?;
+    let upper = upper_of(values, content)?;
     let symbol = symbol_of(values)?;
     check_micro(values, content, symbol.level)?;
     let format = format_of(values, on_terminal)?;
@@ -359,6 +348,7 @@ fn label_of<'a>(values: &Values<'a>, on_terminal: bool) -> Result<Label<'a>, Mis
     Ok(Label {
         content,
         domain,
+        upper,
         symbol,
         format,
         settings: zoned(content, in_dots(format, settings)?),
@@ -372,7 +362,8 @@ fn label_of<'a>(values: &Values<'a>, on_terminal: bool) -> Result<Label<'a>, Mis
         colored: colored_of(values, on_terminal, format),
         turn,
         details,
-        dpi: settings.dpi,
+        dpi_tenths: settings.dpi_tenths,
+        asked_um: settings.module_um,
         hri,
     })
 }

@@ -36,6 +36,8 @@ Content:
       --no-kanji        no pairs of bytes in the Kanji mode, which some readers show
                         as other characters (with -c bytes)
       --domain DOMAIN   domain of the link; default: id.gs1.org
+      --upper           scheme and host of the link in capitals, which takes a smaller
+                        symbol: HTTPS://ID.GS1.ORG/01/09506000134352
   -l, --level LEVEL     L, M, Q or H: about 7, 15, 25 or 30 percent can be
                         damaged; default: M; micro has no H
       --strongest       raise the level as far as the symbol stays as small
@@ -49,9 +51,10 @@ Picture:
   -s, --scale N         pixels a module, 1 to 64; default: 8, of terminal 1
   -q, --quiet N         light margin in modules, 0 to 16; default: 4, of micro 2
       --module-mm MM    size of a module, 0.05 to 10 (svg, png, eps, pdf; with --dpi
-                        png, zpl, escpos: the nearest whole dots)
-      --dpi N           dots an inch, 50 to 2400 (png; with --module-mm also zpl,
-                        escpos)
+                        or --dpmm png, zpl, escpos: the nearest whole dots)
+      --dpi N           dots an inch, 50 to 2400, as 203.2 (png; with --module-mm also
+                        zpl, escpos)
+      --dpmm N          dots a millimetre in place of --dpi, 2 to 94: 8 are --dpi 203.2
       --rotate DEGREES  turn the symbol clockwise: 0, 90, 180 or 270; default: 0
       --inverted        for light text on a dark screen (terminal)
       --title TITLE     title of the picture (svg, png, eps, pdf)

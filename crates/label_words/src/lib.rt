@@ -14,6 +14,7 @@
 mod choices;
 mod command;
 mod help;
+mod link_words;
 mod misuse;
 mod names;
 mod portion;

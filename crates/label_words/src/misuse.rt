@@ -15,8 +15,15 @@ const ADVICE: &str = "\ntry qrlabel --help";
 
 /// What the size of a module can be.
 const MODULE: &str = "\
-0.05 to 10, at most two decimals, for svg, png, eps and pdf; \
-with --dpi for png, zpl and escpos, 1 to 64 whole dots";
+0.05 to 10, at most three decimals, for svg, png, eps and pdf; \
+with --dpi or --dpmm for png, zpl and escpos, 1 to 64 whole dots";
+
+/// What the number of dots of an inch can be.
+const DPI: &str =
+    "50 to 2400, at most one decimal, for png; with --module-mm for zpl and escpos, too";
+
+/// What the number of dots of a millimetre can be.
+const DPMM: &str = "2 to 94, not with --dpi, for png; with --module-mm for zpl and escpos, too";
 
 /// What the name of the output can be.
 const OUTPUT: &str = "\
@@ -137,6 +144,7 @@ fn option_word(name: Name) -> &'static str
         Name::Info => "--info",
         Name::Domain => "--domain",
         Name::NoKanji => "--no-kanji",
+        Name::Upper => "--upper",
         _ => picture_word(name),
     }
 }
@@ -150,6 +158,7 @@ fn picture_word(name: Name) -> &'static str
         Name::Quiet => "--quiet",
         Name::ModuleMm => "--module-mm",
         Name::Dpi => "--dpi",
+        Name::Dpmm => "--dpmm",
         Name::Inverted => "--inverted",
         Name::Title => "--title",
         Name::At => "--at",
@@ -178,16 +187,16 @@ fn values_text(name: Name) -> &'static str
         Name::Strongest => "not for a Micro symbol",
         Name::MinVersion => "1 to 40, not for a Micro symbol",
         Name::MaxVersion => "1 to 40, at least --min-version, not for a Micro symbol",
-        Name::Scale => "1 to 64, and not with both --module-mm and --dpi",
+        Name::Scale => "1 to 64, and not with both --module-mm and --dpi or --dpmm",
         Name::Quiet => "0 to 16",
         Name::ModuleMm => MODULE,
-        Name::Dpi => "50 to 2400, for png; with --module-mm for zpl and escpos, too",
+        Name::Dpi => DPI,
+        Name::Dpmm => DPMM,
         Name::Inverted => "for terminal",
         Name::Title => "a text without control characters, for svg, png, eps and pdf",
         Name::At => "X,Y, each 0 to 18000, for zpl",
-        Name::Read => "not with a text",
         Name::Output => OUTPUT,
-        Name::Lines => "not with a text",
+        Name::Read | Name::Lines => "not with a text",
         Name::First => "0 to 1000000000, with --lines",
         Name::KeepGoing => "with --lines",
         Name::Copies => "1 to 99999999, for zpl",
@@ -203,6 +212,7 @@ fn values_text(name: Name) -> &'static str
         Name::AnyColors => "for svg, png, eps and pdf",
         Name::Hri => "with -c gs1, gs1-unchecked or link, for terminal, svg, eps and zpl",
         Name::NoKanji => "with -c bytes",
+        Name::Upper => "with -c link",
         Name::Text | Name::AllowEmpty | Name::KeepNewline => "",
         Name::Help | Name::Version => "",
     }

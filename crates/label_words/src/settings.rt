@@ -3,6 +3,7 @@ ghost use Rattle.std.specs.Prelude.{◌≡◌};
 ghost use Rattle.label_words.specs.Values.{said};
 ghost use Rattle.label_words.specs.CommandOutcomes.{outcome, settings_outcome, wishes_of};
 ghost use Rattle.label_words.specs.Commands.{number_asked, module_asked, place_asked, settings_asked};
+ghost use Rattle.label_words.specs.Commands.{dpmm_in, dpi_asked};
 ghost use Rattle.label_words.specs.Commands.{dark_asked, light_asked, title_asked};
 ghost use Rattle.label_words.specs.CommandOutcomes.{title_outcome};
 ghost use Rattle.label_words.specs.Commands.{some_found, zoned, dots_asked, in_dots, hri_asked};
@@ -11,14 +12,22 @@ ghost use Rattle.label_words.specs.Choices.{is_drawn_in_dots, has_elements};
 use crate::command::{Content, is_micro};
 use crate::words::{Misuse, Name, Values};
 use picture_settings::bounds::{
-    MAX_DPI, MAX_MODULE_MM, MAX_SCALE, MICRO_QUIET, MIN_DPI, MIN_MODULE_MM, MIN_SCALE,
+    MAX_DPI_TENTHS, MAX_MODULE_UM, MAX_SCALE, MICRO_QUIET, MIN_DPI_TENTHS, MIN_MODULE_UM, MIN_SCALE,
 };
 use picture_settings::colors::{Colors, Ground, Rgb};
 use picture_settings::format::Format;
-use picture_settings::option_words::{hundredths_of_word, number_of_word, position_of_word};
+use picture_settings::option_words::{
+    number_of_word, position_of_word, tenths_of_word, thousandths_of_word,
+};
 use picture_settings::settings::Settings;
 use picture_settings::xml::is_xml_text;
 use programs::has_control;
+
+/// The least number of dots of a millimetre.
+pub const MIN_DPMM: usize = 2;
+
+/// The greatest number of dots of a millimetre.
+pub const MAX_DPMM: usize = 94;
 
 /// Returns what was found for an option that is given, or `Invalid` with its name.
 fn some_found<'a, T>(thing: Option<T>, name: Name) -> Result<Option<T>, Misuse<'a>>
@@ -40,13 +49,37 @@ fn number<'a>(values: &Values<'a>, name: Name) -> Result<Option<usize>, Misuse<'
     }
 }
 
-/// Returns the size of a module in hundredths of a millimetre, if it is given.
-fn module_mm<'a>(values: &Values<'a>) -> Result<Option<usize>, Misuse<'a>>
+/// Returns the width of a module in micrometres, if it is given.
+fn module_um<'a>(values: &Values<'a>) -> Result<Option<usize>, Misuse<'a>>
     ensures { outcome result ≡ module_asked (said values.now) }
 {
     match values.get(Name::ModuleMm) {
-        Some(word) => some_found(hundredths_of_word(word), Name::ModuleMm),
+        Some(word) => some_found(thousandths_of_word(word), Name::ModuleMm),
         None => Ok(None),
+    }
+}
+
+/// Returns the dots of ten inches, of which each is 25.4 mm, by those of a millimetre, 2 to 94.
+fn dpi_of_dpmm(word: &str) -> Option<usize>
+    ensures { result ≡ dpmm_in word.now }
+{
+    match number_of_word(word) {
+        Some(n) if MIN_DPMM <= n && n <= MAX_DPMM => Some(254 * n),
+        _ => None,
+    }
+}
+
+/// Returns the dots of ten inches, if those of an inch or of a millimetre are given.
+fn dpi_tenths<'a>(values: &Values<'a>) -> Result<Option<usize>, Misuse<'a>>
+    ensures { outcome result ≡ dpi_asked (said values.now) }
+{
+    match values.get(Name::Dpmm) {
+        Some(_) if values.has(Name::Dpi) => Err(Misuse::Invalid(Name::Dpmm)),
+        Some(word) => some_found(dpi_of_dpmm(word), Name::Dpmm),
+        None => match values.get(Name::Dpi) {
+            Some(word) => some_found(tenths_of_word(word), Name::Dpi),
+            None => Ok(None),
+        },
     }
 }
 
@@ -98,8 +131,8 @@ pub fn settings_of<'a>(values: &Values<'a>) -> Result<Settings<'a>, Misuse<'a>>
     Ok(Settings {
         scale: number(values, Name::Scale)?,
         quiet: number(values, Name::Quiet)?,
-        module_mm: module_mm(values)?,
-        dpi: number(values, Name::Dpi)?,
+        module_um: module_um(values)?,
+        dpi_tenths: dpi_tenths(values)?,
         inverted: values.has(Name::Inverted),
         title: title(values)?,
         caption: None,
@@ -137,18 +170,18 @@ fn has_dots(format: Format) -> bool
     }
 }
 
-/// Returns the number of whole dots that is nearest to the size of a module, by its hundredths of a
-/// millimetre and the dots of an inch, which is 25.4 mm.
-fn dots_of<'a>(module_mm: usize, dpi: usize) -> Result<usize, Misuse<'a>>
-    ensures { outcome result ≡ dots_asked module_mm dpi }
+/// Returns the number of whole dots that is nearest to the width of a module, by its micrometres
+/// and the dots of ten inches, of which each is 25.4 mm.
+fn dots_of<'a>(module_um: usize, dpi_tenths: usize) -> Result<usize, Misuse<'a>>
+    ensures { outcome result ≡ dots_asked module_um dpi_tenths }
 {
-    if dpi < MIN_DPI || MAX_DPI < dpi {
+    if dpi_tenths < MIN_DPI_TENTHS || MAX_DPI_TENTHS < dpi_tenths {
         return Err(Misuse::Invalid(Name::Dpi));
     }
-    if module_mm < MIN_MODULE_MM || MAX_MODULE_MM < module_mm {
+    if module_um < MIN_MODULE_UM || MAX_MODULE_UM < module_um {
         return Err(Misuse::Invalid(Name::ModuleMm));
     }
-    let dots = (module_mm * dpi + 1270) / 2540;
+    let dots = (module_um * dpi_tenths + 127_000) / 254_000;
     if dots < MIN_SCALE || MAX_SCALE < dots {
         return Err(Misuse::Invalid(Name::ModuleMm));
     }
@@ -160,7 +193,7 @@ fn dots_of<'a>(module_mm: usize, dpi: usize) -> Result<usize, Misuse<'a>>
 pub fn in_dots<'a>(format: Format, mut settings: Settings<'a>) -> Result<Settings<'a>, Misuse<'a>>
     ensures { settings_outcome result ≡ in_dots format (wishes_of settings.entry) }
 {
-    let (Some(module_mm), Some(dpi)) = (settings.module_mm, settings.dpi) else {
+    let (Some(module_um), Some(dpi_tenths)) = (settings.module_um, settings.dpi_tenths) else {
         return Ok(settings);
     };
     if !has_dots(format) {
@@ -169,10 +202,10 @@ pub fn in_dots<'a>(format: Format, mut settings: Settings<'a>) -> Result<Setting
     if settings.scale.is_some() {
         return Err(Misuse::Invalid(Name::Scale));
     }
-    settings.scale = Some(dots_of(module_mm, dpi)?);
-    settings.module_mm = None;
+    settings.scale = Some(dots_of(module_um, dpi_tenths)?);
+    settings.module_um = None;
     if format != Format::Png {
-        settings.dpi = None;
+        settings.dpi_tenths = None;
     }
     Ok(settings)
 }

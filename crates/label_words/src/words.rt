@@ -48,6 +48,8 @@ pub enum Name {
     Domain,
     Hri,
     NoKanji,
+    Dpmm,
+    Upper,
 }
 
 /// Returns the option that a word names. After `--` come texts.
@@ -60,6 +62,7 @@ fn named(word: &str) -> Option<Name>
         "-c" | "--content" => Some(Name::Content),
         "--no-kanji" => Some(Name::NoKanji),
         "--domain" => Some(Name::Domain),
+        "--upper" => Some(Name::Upper),
         "-l" | "--level" => Some(Name::Level),
         "--strongest" => Some(Name::Strongest),
         "--min-version" => Some(Name::MinVersion),
@@ -91,6 +94,7 @@ fn picture_named(word: &str) -> Option<Name>
         "-q" | "--quiet" => Some(Name::Quiet),
         "--module-mm" => Some(Name::ModuleMm),
         "--dpi" => Some(Name::Dpi),
+        "--dpmm" => Some(Name::Dpmm),
         "--inverted" => Some(Name::Inverted),
         "--title" => Some(Name::Title),
         "--at" => Some(Name::At),
@@ -116,7 +120,7 @@ fn takes_value(name: Name) -> bool
         Name::KeepGoing | Name::KeepNewline | Name::Help | Name::Version => false,
         Name::Compressed | Name::Cut | Name::Split => false,
         Name::Verbose | Name::Info | Name::AnyColors | Name::Hri => false,
-        Name::NoKanji => false,
+        Name::NoKanji | Name::Upper => false,
         _ => true,
     }
 }
@@ -132,7 +136,7 @@ fn is_text(name: Name) -> bool
 }
 
 /// The number of options.
-pub const COUNT: usize = 37;
+pub const COUNT: usize = 39;
 
 /// What is wrong with the words.
 #[derive(Clone, Copy, Debug, PartialEq, Eq)]

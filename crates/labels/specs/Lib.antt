@@ -8,4 +8,5 @@ pub mod Devices
 pub mod Refusals
 pub mod Reports
 pub mod Runs
+pub mod Sizes
 pub mod Stops

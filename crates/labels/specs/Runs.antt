@@ -1,6 +1,6 @@
 -- What the program reads and writes, and its exit status.
 use Rattle.std.specs.Prelude.{◌≡◌, ◌≢◌, ◌⊎◌, ◌+◌, ◌↔◌, ℕ, Bool, List, [], Result, Ok, Err, None, Some}
-use Rattle.std.specs.Prelude.{true, false, IsTrue, IsFalse, IsErrOf, Option, codes, if◌then◌else◌}
+use Rattle.std.specs.Prelude.{true, false, ◌==◌, ◌||◌, IsTrue, IsFalse, IsErrOf, Option, codes, if◌then◌else◌}
 use Rattle.std.specs.Option.{option_copied}
 use Rattle.std.specs.declared.io.ErrorKind.{ErrorKind}
 use Rattle.std.specs.Io.KnownBytes.{Keeps}
@@ -28,6 +28,7 @@ use Rattle.single_label.specs.Pages.{are_pages}
 use Rattle.single_label.specs.Parts.{ShowMessage, ShowsMessage, IsMessageStop}
 use Rattle.label_words.specs.Numberings.{numbering_of}
 use Rattle.label_words.specs.Settings.{setting_wrong}
+use Rattle.labels.specs.Sizes.{size_report}
 use Rattle.labels.specs.Stops.{Devices, stop_report, end_report, stop_status}
 use Rattle.label_words.specs.Words.{Values, Wrong, value_said}
 use Rattle.label_words.specs.declared.command.Label.{Label}
@@ -258,13 +259,22 @@ ServesPortion Split label options input output files errors status =
 ServesPortion (Parts name) label options input output files errors status =
     ServesParts label options input files.old files.new (numbering_of name) errors status
 
--- The label was drawn with the options that its settings ask for.
+-- There are labels: of all, or of each line that was not left out.
+abbrev pub is_drawn : ℕ → Bool
+is_drawn status = (status == 0) || (status == LEFT_OUT)
+
+-- The label was drawn with the options that its settings ask for. What this writes on standard error
+-- is followed, where there are labels, by the line of a width that is not the one that was asked for.
 pub record DrawsAsAsked (label : Label) (input : Input) (output : Output) (files : Files)
     (errors : Output) (status : ℕ) : Type 0 where
   pub options : DrawOptions
   pub valid : invalid_setting label.format label.settings ≡ None
   pub made : IsMadeOf label.format label.settings options
-  pub serves : ServesPortion label.portion label options input output files errors status
+  pub said : Output
+  pub begins : said.before ≡ errors.before
+  pub sound : IsTrue said.failed → IsTrue errors.failed
+  pub serves : ServesPortion label.portion label options input output files said status
+  pub reports : Writes (later said errors) (if is_drawn status then size_report label options else [])
 
 -- The first setting that is not valid is wrong, and this needs no memory; if all are valid, the
 -- label is drawn.
@@ -272,7 +282,7 @@ abbrev pub RunsLabel : Values → Label → (kept : Type 0) → Input → Output
 RunsLabel values label kept input output files errors status =
     DrawsAsAsked label input output files errors status
     ⊎ ((setting : Setting) × (invalid_setting label.format label.settings ≡ Some setting)
-    × Misused values (setting_wrong label.format setting) kept errors status)
+    × Misused values (setting_wrong values label.format setting) kept errors status)
 
 -- What the program does for what the words ask for.
 abbrev pub Runs : Values → Result Command Wrong → (kept : Type 0) → Input → Output → Files → Output → ℕ → Type 0

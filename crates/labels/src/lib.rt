@@ -15,6 +15,7 @@ mod pieces;
 mod refusal;
 mod report;
 mod runs;
+mod sizes;
 mod stop;
 mod whole;
 

@@ -3,7 +3,7 @@
 //! 1. Find out what is asked for (`command_of`).
 //! 2. Write the help or the version (`show`), or draw labels (`run_label`): those of lines, or
 //!    those of the whole input (`whole`).
-ghost use Rattle.std.specs.Prelude.{◌≡◌, true, IsTrue, IsFalse};
+ghost use Rattle.std.specs.Prelude.{◌≡◌, true, IsTrue, IsFalse, if◌then◌else◌, []};
 ghost use Rattle.std.specs.Option.{option_copied};
 ghost use Rattle.programs.specs.Devices.{input, output, Writes};
 ghost use Rattle.label_words.specs.Commands.{command_asked};
@@ -17,7 +17,8 @@ ghost use Rattle.single_label.specs.Pages.{are_pages};
 ghost use Rattle.label_words.specs.Numberings.{numbering_of};
 ghost use Rattle.labels.specs.Devices.{devices_of};
 ghost use Rattle.labels.specs.Runs.{ServesLines, lines_status, lines_reported};
-ghost use Rattle.labels.specs.Runs.{Shows, RunsLabel, Runs};
+ghost use Rattle.labels.specs.Runs.{Shows, RunsLabel, Runs, is_drawn};
+ghost use Rattle.labels.specs.Sizes.{size_report};
 ghost use Rattle.label_words.specs.Values.{said, wrong_of};
 ghost use Rattle.label_words.specs.Settings.{setting_option, setting_wrong};
 ghost use Rattle.label_words.specs.Words.{value_said};
@@ -26,6 +27,7 @@ use crate::document::draw_pages;
 use crate::files::{Files, draw_files};
 use crate::lines::draw_lines;
 use crate::report::report_end;
+use crate::sizes::report_size;
 use crate::stop::{Devices, LineStop};
 use crate::whole::{serve_label, serve_message, serve_parts};
 use label_words::{
@@ -232,11 +234,12 @@ fn setting_option(setting: Setting) -> Name
 }
 
 /// Returns what is wrong with the words where a setting is not valid in a format.
-fn setting_misuse<'a>(format: Format, setting: Setting) -> Misuse<'a>
-    ensures { wrong_of result ≡ setting_wrong format setting }
+fn setting_misuse<'a>(values: &Values<'a>, format: Format, setting: Setting) -> Misuse<'a>
+    ensures { wrong_of result ≡ setting_wrong (said values.now) format setting }
 {
     match setting {
         Setting::Title if format.has_title() => Misuse::LongTitle,
+        Setting::Dpi if values.has(Name::Dpmm) => Misuse::Invalid(Name::Dpmm),
         setting => Misuse::Invalid(setting_option(setting)),
     }
 }
@@ -246,11 +249,29 @@ fn wrong_setting<E: Sink>(errors: &mut E, values: &Values, format: Format, setti
     requires sound { IsFalse (E.state errors.old).failed }
     ensures status { result ≡ 2 }
     ensures reported { Writes (output (E.state errors.old) (E.state errors.new))
-        (wrong_line (value_said (said values.now) (setting_wrong format setting))
-        (setting_wrong format setting)) }
+        (wrong_line (value_said (said values.now) (setting_wrong (said values.now) format setting))
+        (setting_wrong (said values.now) format setting)) }
 {
-    let misuse = setting_misuse(format, setting);
+    let misuse = setting_misuse(values, format, setting);
     misused(errors, misuse, values.wrong_value(misuse))
+}
+
+/// Whether there are labels: of all, or of each line that was not left out.
+fn is_drawn(status: u8) -> bool
+    ensures { result ≡ is_drawn status }
+{
+    status == 0 || status == LEFT_OUT
+}
+
+/// Writes how wide a module is, if there are labels and it is not what was asked for.
+fn last_report<E: Sink>(errors: &mut E, status: u8, label: &Label, options: &DrawOptions)
+    ensures failed { IsTrue (E.state errors.old).failed → IsTrue (E.state errors.new).failed }
+    ensures reported { Writes (output (E.state errors.old) (E.state errors.new))
+        (if is_drawn status then size_report label.now options.now else []) }
+{
+    if is_drawn(status) {
+        report_size(errors, label, options);
+    }
 }
 
 /// Draws the label, and returns the exit status: that of `serve`, or 2 if a setting of the picture
@@ -276,7 +297,11 @@ fn run_label<R: Source, W: Sink, F: Files, E: Sink>(
         (output (E.state errors.old) (E.state errors.new)) result }
 {
     match DrawOptions::new(alloc, label.format, &label.settings) {
-        Ok(options) => serve(alloc, label, &options, reader, writer, files, errors),
+        Ok(options) => {
+            let status = serve(alloc, label, &options, reader, writer, files, errors);
+            last_report(errors, status, label, &options);
+            status
+        }
         Err(setting) => wrong_setting(errors, values, label.format, setting),
     }
 }

@@ -25,7 +25,7 @@ passed setting false more holds = cc
 
 -- where the first eight tests pass, the printer's are left
 pub all_passed : (format : Format) (s : Settings) → allows true 1 64 s.scale ≡ true → allows true 0 16 s.quiet ≡ true →
-    allows (has_millimetres format) 5 1000 s.module_mm ≡ true → allows (has_dots format && is_none s.module_mm) 50 2400 s.dpi ≡ true →
+    allows (has_millimetres format) 50 10000 s.module_um ≡ true → allows (has_dots format && is_none s.module_um) 500 24000 s.dpi_tenths ≡ true →
     (not s.inverted || can_be_inverted format) ≡ true →
     (allows_title (has_title format) (option_copied s.title) && has_room format (option_copied s.title)) ≡ true →
     allows_caption (has_caption format) (option_copied s.caption) ≡ true →

@@ -16,8 +16,8 @@ use Rattle.picture_settings.specs.declared.settings.Settings.{Settings}
 use Rattle.picture_settings.specs.ColorWords.{word_color, ground_word}
 use Rattle.picture_settings.specs.Formats.{has_setting}
 use Rattle.picture_settings.specs.DrawOptions.{IsMadeOf}
-use Rattle.picture_settings.specs.OptionWords.{word_flag, word_hundredths, word_number}
-use Rattle.picture_settings.specs.OptionWords.{word_position}
+use Rattle.picture_settings.specs.OptionWords.{word_flag, word_number, word_position}
+use Rattle.picture_settings.specs.OptionWords.{word_tenths, word_thousandths}
 use Rattle.picture_settings.specs.Settings.{invalid_setting, setting_word}
 
 -- All settings, in the order of `Settings`.
@@ -32,7 +32,8 @@ text_at options setting = at_key options (setting_word setting)
 
 -- A text is a value of a setting, though perhaps out of its bounds.
 abbrev pub is_value : Setting → List ℕ → Bool
-is_value ModuleMm text = is_some (word_hundredths text)
+is_value ModuleMm text = is_some (word_thousandths text)
+is_value Dpi text = is_some (word_tenths text)
 is_value Inverted text = is_some (word_flag text)
 is_value Title text = true
 is_value Caption text = true
@@ -68,8 +69,8 @@ flag_at options setting = unwrap_or (option_and_then word_flag (text_at options 
 pub record IsReadFrom (options : TextMap (List ℕ)) (s : Settings) : Type 0 where
   pub scale_is : s.scale ≡ number_at options Scale
   pub quiet_is : s.quiet ≡ number_at options Quiet
-  pub module_mm_is : s.module_mm ≡ option_and_then word_hundredths (text_at options ModuleMm)
-  pub dpi_is : s.dpi ≡ number_at options Dpi
+  pub module_is : s.module_um ≡ option_and_then word_thousandths (text_at options ModuleMm)
+  pub dpi_is : s.dpi_tenths ≡ option_and_then word_tenths (text_at options Dpi)
   pub inverted_is : s.inverted ≡ flag_at options Inverted
   pub title_is : option_copied s.title ≡ text_at options Title
   pub caption_is : option_copied s.caption ≡ text_at options Caption

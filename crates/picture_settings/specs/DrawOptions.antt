@@ -12,8 +12,8 @@ pub record IsMadeOf (format : Format) (s : Settings) (options : DrawOptions) : T
   pub format_is : options.format ≡ format
   pub scale_is : options.scale ≡ unwrap_or s.scale (default_scale format)
   pub quiet_is : options.quiet ≡ unwrap_or s.quiet QUIET
-  pub module_mm_is : options.module_mm ≡ s.module_mm
-  pub dpi_is : options.dpi ≡ s.dpi
+  pub module_is : options.module_um ≡ s.module_um
+  pub dpi_is : options.dpi_tenths ≡ s.dpi_tenths
   pub inverted_is : options.inverted ≡ s.inverted
   pub title_is : option_copied options.title ≡ option_copied s.title
   pub caption_is : option_copied options.caption ≡ option_copied s.caption

@@ -24,19 +24,27 @@ word_number word = digits_number (without_leading_plus word)
 abbrev pub decimal_digit : ℕ → Option ℕ
 decimal_digit c = if nat_le 48 c && nat_le c 57 then Some (c - 48) else None
 
--- The hundredths of one or two digits after a decimal point.
-abbrev pub fraction_hundredths : List ℕ → Option ℕ
-fraction_hundredths (tenths ∷ []) = option_map (λ n. 10 * n) (decimal_digit tenths)
-fraction_hundredths (tenths ∷ hundredths ∷ []) =
-    option_and_then (λ n. option_map (λ m. 10 * n + m) (decimal_digit hundredths))
-    (decimal_digit tenths)
-fraction_hundredths _ = None
+-- The tenths of one digit after a decimal point.
+abbrev pub fraction_tenths : List ℕ → Option ℕ
+fraction_tenths (tenths ∷ []) = decimal_digit tenths
+fraction_tenths _ = None
 
--- The hundredths of a number up to 1,000, and more hundredths.
-abbrev pub with_hundredths : Option ℕ → Option ℕ → Option ℕ
-with_hundredths (Some whole) (Some more) =
-    if nat_le whole 1000 && nat_lt more 100 then Some (100 * whole + more) else None
-with_hundredths _ _ = None
+-- The thousandths of one to three digits after a decimal point.
+abbrev pub fraction_thousandths : List ℕ → Option ℕ
+fraction_thousandths (tenths ∷ []) = option_map (λ n. 100 * n) (decimal_digit tenths)
+fraction_thousandths (tenths ∷ hundredths ∷ []) =
+    option_and_then (λ n. option_map (λ m. 100 * n + 10 * m) (decimal_digit hundredths))
+    (decimal_digit tenths)
+fraction_thousandths (tenths ∷ hundredths ∷ rest ∷ []) =
+    option_and_then (λ n. option_and_then (λ m. option_map (λ k. 100 * n + 10 * m + k)
+    (decimal_digit rest)) (decimal_digit hundredths)) (decimal_digit tenths)
+fraction_thousandths _ = None
+
+-- The parts of a unit in a number up to 10,000, and more such parts.
+abbrev pub with_fraction : (parts : ℕ) → Option ℕ → Option ℕ → Option ℕ
+with_fraction parts (Some whole) (Some more) =
+    if nat_le whole 10000 && nat_lt more parts then Some (parts * whole + more) else None
+with_fraction parts _ _ = None
 
 -- What stands before and after the first byte of this value, if there is one.
 abbrev pub around_first : ℕ → List ℕ → Option (List ℕ × List ℕ)
@@ -44,13 +52,21 @@ around_first c word =
     if position_or_len (λ b. b == c) word == length word then None
     else Some (before_first (λ b. b == c) word, after_first (λ b. b == c) word)
 
--- The hundredths that a decimal number writes: a number, and perhaps a point with one or two digits
--- after it.
-abbrev pub word_hundredths : List ℕ → Option ℕ
-word_hundredths word =
+-- The thousandths that a decimal number writes: a number, and perhaps a point with one to three
+-- digits after it.
+abbrev pub word_thousandths : List ℕ → Option ℕ
+word_thousandths word =
     elim (around_first 46 word) [
-      | Some parts ↦ with_hundredths (word_number parts.0) (fraction_hundredths parts.1)
-      | None ↦ with_hundredths (word_number word) (Some 0)
+      | Some around ↦ with_fraction 1000 (word_number around.0) (fraction_thousandths around.1)
+      | None ↦ with_fraction 1000 (word_number word) (Some 0)
+    ]
+
+-- The tenths that a decimal number writes: a number, and perhaps a point with one digit after it.
+abbrev pub word_tenths : List ℕ → Option ℕ
+word_tenths word =
+    elim (around_first 46 word) [
+      | Some around ↦ with_fraction 10 (word_number around.0) (fraction_tenths around.1)
+      | None ↦ with_fraction 10 (word_number word) (Some 0)
     ]
 
 -- The two numbers of `X,Y`.

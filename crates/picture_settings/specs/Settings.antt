@@ -6,8 +6,8 @@ use Rattle.std.specs.Prelude.{List, [], ◌∷◌, codes, length, Option, None, 
 use Rattle.std.specs.List.{list_all}
 use Rattle.std.specs.Option.{option_copied}
 use Rattle.picture_settings.specs.declared.bounds.TheConstants.{MIN_SCALE, MAX_SCALE, MAX_QUIET}
-use Rattle.picture_settings.specs.declared.bounds.TheConstants.{MIN_MODULE_MM, MAX_MODULE_MM}
-use Rattle.picture_settings.specs.declared.bounds.TheConstants.{MIN_DPI, MAX_DPI, MAX_AT}
+use Rattle.picture_settings.specs.declared.bounds.TheConstants.{MIN_MODULE_UM, MAX_MODULE_UM}
+use Rattle.picture_settings.specs.declared.bounds.TheConstants.{MIN_DPI_TENTHS, MAX_DPI_TENTHS, MAX_AT}
 use Rattle.picture_settings.specs.declared.bounds.TheConstants.{MIN_COPIES, MAX_COPIES, MAX_FEED}
 use Rattle.picture_settings.specs.declared.bounds.TheConstants.{MAX_PDF_TITLE, MAX_PNG_TITLE}
 use Rattle.picture_settings.specs.declared.bounds.TheConstants.{MAX_PS_TITLE}
@@ -94,8 +94,8 @@ abbrev pub setting_tests : Format → Settings → List (Setting × Bool)
 setting_tests format s =
     (Scale, allows true MIN_SCALE MAX_SCALE s.scale)
     ∷ (Quiet, allows true 0 MAX_QUIET s.quiet)
-    ∷ (ModuleMm, allows (has_millimetres format) MIN_MODULE_MM MAX_MODULE_MM s.module_mm)
-    ∷ (Dpi, allows (has_dots format && is_none s.module_mm) MIN_DPI MAX_DPI s.dpi)
+    ∷ (ModuleMm, allows (has_millimetres format) MIN_MODULE_UM MAX_MODULE_UM s.module_um)
+    ∷ (Dpi, allows (has_dots format && is_none s.module_um) MIN_DPI_TENTHS MAX_DPI_TENTHS s.dpi_tenths)
     ∷ (Inverted, not s.inverted || can_be_inverted format)
     ∷ (
       Title,

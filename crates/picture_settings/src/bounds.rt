@@ -45,17 +45,17 @@ pub const QUIET: usize = 4;
 /// The default width of the quiet zone of a Micro symbol.
 pub const MICRO_QUIET: usize = 2;
 
-/// The least width of a module in hundredths of a millimetre.
-pub const MIN_MODULE_MM: usize = 5;
+/// The least width of a module in micrometres.
+pub const MIN_MODULE_UM: usize = 50;
 
-/// The greatest width of a module in hundredths of a millimetre.
-pub const MAX_MODULE_MM: usize = 1_000;
+/// The greatest width of a module in micrometres.
+pub const MAX_MODULE_UM: usize = 10_000;
 
-/// The least number of pixels in an inch.
-pub const MIN_DPI: usize = 50;
+/// The least number of pixels in ten inches.
+pub const MIN_DPI_TENTHS: usize = 500;
 
-/// The greatest number of pixels in an inch.
-pub const MAX_DPI: usize = 2_400;
+/// The greatest number of pixels in ten inches.
+pub const MAX_DPI_TENTHS: usize = 24_000;
 
 /// The greatest position of a picture on a label, in dots. The lowest row of the largest picture is
 /// then within the 32,000 dots of `^FO`.

@@ -1,23 +1,26 @@
 //! The settings that a renderer's configuration asks for.
 //!
 //! An option has the name of its setting (`Setting::name`). Its text is a decimal number; of
-//! `module_mm` millimetres, with at most two digits after a point; of `at` two numbers, `X,Y`; of
-//! `inverted`, `compressed`, `cut` and `any_colors` `true` or `false`; of `dark` and `light` a word
-//! that `Rgb::of_word` and `Ground::of_word` read; and of `title` and `caption` the text itself.
+//! `module_mm` millimetres, with at most three digits after a point; of `dpi` with at most one; of
+//! `at` two numbers, `X,Y`; of `inverted`, `compressed`, `cut` and `any_colors` `true` or `false`;
+//! of `dark` and `light` a word that `Rgb::of_word` and `Ground::of_word` read; and of `title` and
+//! `caption` the text itself.
 ghost use Rattle.std.specs.Prelude.{◌≡◌, option_and_then, None, Some, IfOk, IfErr, OnOk};
 ghost use Rattle.std.specs.Option.{option_copied};
 ghost use Rattle.qrcode_core.specs.Plugins.{render_options};
 ghost use Rattle.picture_settings.specs.ColorWords.{word_color, ground_word};
 ghost use Rattle.picture_settings.specs.Configs.{flag_at, is_value, is_wrong, number_at, text_at};
 ghost use Rattle.picture_settings.specs.Configs.{IsReadFrom, wrong_option};
-ghost use Rattle.picture_settings.specs.OptionWords.{word_hundredths, word_position};
-ghost use Rattle.picture_settings.specs.declared.settings.Setting.TheVariants.{ModuleMm, At};
+ghost use Rattle.picture_settings.specs.OptionWords.{word_position, word_tenths, word_thousandths};
+ghost use Rattle.picture_settings.specs.declared.settings.Setting.TheVariants.{ModuleMm, Dpi, At};
 ghost use Rattle.picture_settings.specs.declared.settings.Setting.TheVariants.{Dark, Light};
 
 use crate::colors::{Colors, Ground, Rgb};
 use crate::draw_options::DrawOptions;
 use crate::format::Format;
-use crate::option_words::{flag_of_word, hundredths_of_word, number_of_word, position_of_word};
+use crate::option_words::{
+    flag_of_word, number_of_word, position_of_word, tenths_of_word, thousandths_of_word,
+};
 use crate::options::invalid_option;
 use crate::settings::{Setting, Settings};
 use qrcode_core::plugin::{PluginError, RenderConfig};
@@ -102,8 +105,8 @@ fn settings_read(config: &RenderConfig) -> Settings<'_>
     Settings {
         scale: number_at(config, Setting::Scale),
         quiet: number_at(config, Setting::Quiet),
-        module_mm: module_mm(config),
-        dpi: number_at(config, Setting::Dpi),
+        module_um: module_um(config),
+        dpi_tenths: dpi_tenths(config),
         inverted: flag_at(config, Setting::Inverted),
         title: text_at(config, Setting::Title),
         caption: text_at(config, Setting::Caption),
@@ -147,10 +150,11 @@ fn is_value(setting: Setting, text: &str) -> bool
     ensures { result ≡ is_value setting text.now }
 {
     match setting {
-        Setting::Scale | Setting::Quiet | Setting::Dpi | Setting::Copies | Setting::Feed => {
+        Setting::Scale | Setting::Quiet | Setting::Copies | Setting::Feed => {
             number_of_word(text).is_some()
         }
-        Setting::ModuleMm => hundredths_of_word(text).is_some(),
+        Setting::ModuleMm => thousandths_of_word(text).is_some(),
+        Setting::Dpi => tenths_of_word(text).is_some(),
         Setting::Inverted | Setting::Compressed | Setting::Cut | Setting::AnyColors => {
             flag_of_word(text).is_some()
         }
@@ -175,12 +179,19 @@ fn number_at(config: &RenderConfig, setting: Setting) -> Option<usize>
     number_of_word(text_at(config, setting)?)
 }
 
-/// Returns the size of a module in hundredths of a millimetre.
-fn module_mm(config: &RenderConfig) -> Option<usize>
+/// Returns the width of a module in micrometres.
+fn module_um(config: &RenderConfig) -> Option<usize>
     ensures { result
-        ≡ option_and_then word_hundredths (text_at (render_options config.now) ModuleMm) }
+        ≡ option_and_then word_thousandths (text_at (render_options config.now) ModuleMm) }
 {
-    hundredths_of_word(text_at(config, Setting::ModuleMm)?)
+    thousandths_of_word(text_at(config, Setting::ModuleMm)?)
+}
+
+/// Returns the number of pixels in ten inches.
+fn dpi_tenths(config: &RenderConfig) -> Option<usize>
+    ensures { result ≡ option_and_then word_tenths (text_at (render_options config.now) Dpi) }
+{
+    tenths_of_word(text_at(config, Setting::Dpi)?)
 }
 
 /// Returns the position on the label.

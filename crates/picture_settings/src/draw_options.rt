@@ -9,14 +9,14 @@ ghost use Rattle.picture_settings.specs.Settings.{first_failed, has_room, printe
 ghost use Rattle.picture_settings.specs.Settings.{allows_colors, color_tests};
 ghost use Rattle.picture_settings.specs.Formats.{has_caption, has_copies, has_feed, has_title};
 ghost use Rattle.picture_settings.specs.declared.bounds.TheConstants.{MIN_SCALE, MAX_SCALE};
-ghost use Rattle.picture_settings.specs.declared.bounds.TheConstants.{MAX_QUIET, MIN_MODULE_MM};
-ghost use Rattle.picture_settings.specs.declared.bounds.TheConstants.{MAX_MODULE_MM, MIN_DPI};
-ghost use Rattle.picture_settings.specs.declared.bounds.TheConstants.{MAX_DPI, MAX_AT, MIN_COPIES};
+ghost use Rattle.picture_settings.specs.declared.bounds.TheConstants.{MAX_QUIET, MIN_MODULE_UM};
+ghost use Rattle.picture_settings.specs.declared.bounds.TheConstants.{MAX_MODULE_UM, MIN_DPI_TENTHS};
+ghost use Rattle.picture_settings.specs.declared.bounds.TheConstants.{MAX_DPI_TENTHS, MAX_AT, MIN_COPIES};
 ghost use Rattle.picture_settings.specs.declared.bounds.TheConstants.{MAX_COPIES, MAX_FEED};
 
 use crate::bounds::{
-    MAX_AT, MAX_COPIES, MAX_DPI, MAX_FEED, MAX_MODULE_MM, MAX_PDF_TITLE, MAX_PNG_TITLE, MAX_QUIET,
-    MAX_SCALE, MIN_COPIES, MIN_DPI, MIN_MODULE_MM, MIN_SCALE, QUIET,
+    MAX_AT, MAX_COPIES, MAX_DPI_TENTHS, MAX_FEED, MAX_MODULE_UM, MAX_PDF_TITLE, MAX_PNG_TITLE,
+    MAX_QUIET, MAX_SCALE, MIN_COPIES, MIN_DPI_TENTHS, MIN_MODULE_UM, MIN_SCALE, QUIET,
 };
 use crate::colors::Colors;
 use crate::format::Format;
@@ -34,10 +34,10 @@ pub struct DrawOptions<'a> {
     pub scale: usize,
     /// The width of the quiet zone in modules.
     pub quiet: usize,
-    /// The width of a module in hundredths of a millimetre.
-    pub module_mm: Option<usize>,
-    /// The number of pixels in an inch.
-    pub dpi: Option<usize>,
+    /// The width of a module in micrometres.
+    pub module_um: Option<usize>,
+    /// The number of pixels in ten inches.
+    pub dpi_tenths: Option<usize>,
     /// Whether the light pixels are filled.
     pub inverted: bool,
     /// The title.
@@ -59,10 +59,10 @@ pub struct DrawOptions<'a> {
     ghost scaled: { MIN_SCALE ≤ scale },
     ghost small_scale: { scale ≤ MAX_SCALE },
     ghost small_zone: { quiet ≤ MAX_QUIET },
-    ghost some_module: { ForSome module_mm (λ n. MIN_MODULE_MM ≤ n) },
-    ghost small_module: { ForSome module_mm (λ n. n ≤ MAX_MODULE_MM) },
-    ghost some_dots: { ForSome dpi (λ n. MIN_DPI ≤ n) },
-    ghost few_dots: { ForSome dpi (λ n. n ≤ MAX_DPI) },
+    ghost some_module: { ForSome module_um (λ n. MIN_MODULE_UM ≤ n) },
+    ghost small_module: { ForSome module_um (λ n. n ≤ MAX_MODULE_UM) },
+    ghost some_dots: { ForSome dpi_tenths (λ n. MIN_DPI_TENTHS ≤ n) },
+    ghost few_dots: { ForSome dpi_tenths (λ n. n ≤ MAX_DPI_TENTHS) },
     ghost far_right: { at.0 ≤ MAX_AT },
     ghost far_down: { at.1 ≤ MAX_AT },
     ghost some_copies: { ForSome copies (λ n. MIN_COPIES ≤ n) },
@@ -92,16 +92,16 @@ impl<'a> DrawOptions<'a> {
             (λ setting. invalid_setting format settings.now ≡ Some setting) }
     {
         let (scale, quiet) = (settings.scale, settings.quiet);
-        let module_mm = settings.module_mm;
-        let dpi = settings.dpi;
+        let (module_um, dpi) = (settings.module_um, settings.dpi_tenths);
         let (inverted, title, at) = (settings.inverted, settings.title, settings.at);
-        let lone_dpi = format.has_dots() && module_mm.is_none();
+        let lone_dpi = format.has_dots() && module_um.is_none();
         require(allows(true, MIN_SCALE, MAX_SCALE, scale), Setting::Scale)?;
         require(allows(true, 0, MAX_QUIET, quiet), Setting::Quiet)?;
         let millimetres = format.has_millimetres();
-        let sized = allows(millimetres, MIN_MODULE_MM, MAX_MODULE_MM, module_mm);
+        let sized = allows(millimetres, MIN_MODULE_UM, MAX_MODULE_UM, module_um);
         require(sized, Setting::ModuleMm)?;
-        require(allows(lone_dpi, MIN_DPI, MAX_DPI, dpi), Setting::Dpi)?;
+        let dotted = allows(lone_dpi, MIN_DPI_TENTHS, MAX_DPI_TENTHS, dpi);
+        require(dotted, Setting::Dpi)?;
         require(!inverted || format.can_be_inverted(), Setting::Inverted)?;
         require(allows_title(format, title), Setting::Title)?;
         require(allows_caption(format, settings.caption), Setting::Caption)?;
@@ -112,8 +112,8 @@ impl<'a> DrawOptions<'a> {
             format,
             scale: scale.unwrap_or(format.default_scale()),
             quiet: quiet.unwrap_or(QUIET),
-            module_mm,
-            dpi,
+            module_um,
+            dpi_tenths: dpi,
             inverted,
             title,
             caption: settings.caption,

@@ -1,9 +1,10 @@
 //! Values of options as words: numbers, sizes in millimetres, positions and flags. `Rgb::of_word`
 //! and `Ground::of_word` read colours.
-ghost use Rattle.std.specs.Prelude.{◌≡◌};
-ghost use Rattle.picture_settings.specs.OptionWords.{word_flag, word_hundredths, word_number};
-ghost use Rattle.picture_settings.specs.OptionWords.{word_position, decimal_digit};
-ghost use Rattle.picture_settings.specs.OptionWords.{fraction_hundredths, with_hundredths};
+ghost use Rattle.std.specs.Prelude.{◌≡◌, ◌≤◌};
+ghost use Rattle.picture_settings.specs.OptionWords.{word_flag, word_number, word_tenths};
+ghost use Rattle.picture_settings.specs.OptionWords.{word_thousandths, word_position, decimal_digit};
+ghost use Rattle.picture_settings.specs.OptionWords.{fraction_tenths, fraction_thousandths};
+ghost use Rattle.picture_settings.specs.OptionWords.{with_fraction};
 
 /// Returns the number that decimal digits write, with or without a plus sign before them. Returns
 /// `None` for another word, and for a number of 2^64 and more.
@@ -17,16 +18,30 @@ pub fn number_of_word(word: &str) -> Option<usize>
     }
 }
 
-/// Returns the hundredths that a decimal number up to 1,000.99 writes: a number, and perhaps a
-/// point with one or two digits after it. Returns `None` for another word.
-pub fn hundredths_of_word(word: &str) -> Option<usize>
-    ensures { result ≡ word_hundredths word.now }
+/// Returns the thousandths that a decimal number up to 10,000.999 writes: a number, and perhaps a
+/// point with one to three digits after it. Returns `None` for another word.
+pub fn thousandths_of_word(word: &str) -> Option<usize>
+    ensures { result ≡ word_thousandths word.now }
 {
     match word.split_once('.') {
         Some((whole, more)) => {
-            with_hundredths(number_of_word(whole), fraction_hundredths(more.as_bytes()))
+            let fraction = fraction_thousandths(more.as_bytes());
+            with_fraction(1000, number_of_word(whole), fraction)
         }
-        None => with_hundredths(number_of_word(word), Some(0)),
+        None => with_fraction(1000, number_of_word(word), Some(0)),
+    }
+}
+
+/// Returns the tenths that a decimal number up to 10,000.9 writes: a number, and perhaps a point
+/// with one digit after it. Returns `None` for another word.
+pub fn tenths_of_word(word: &str) -> Option<usize>
+    ensures { result ≡ word_tenths word.now }
+{
+    match word.split_once('.') {
+        Some((whole, more)) => {
+            with_fraction(10, number_of_word(whole), fraction_tenths(more.as_bytes()))
+        }
+        None => with_fraction(10, number_of_word(word), Some(0)),
     }
 }
 
@@ -59,23 +74,41 @@ fn decimal_digit(byte: u8) -> Option<usize>
     }
 }
 
-/// Returns the hundredths of one or two digits after a decimal point.
-fn fraction_hundredths(digits: &[u8]) -> Option<usize>
-    ensures { result ≡ fraction_hundredths digits.now }
+/// Returns the tenths of one digit after a decimal point.
+fn fraction_tenths(digits: &[u8]) -> Option<usize>
+    ensures { result ≡ fraction_tenths digits.now }
 {
     match digits {
-        [tenths] => Some(10 * decimal_digit(*tenths)?),
-        [tenths, hundredths] => Some(10 * decimal_digit(*tenths)? + decimal_digit(*hundredths)?),
+        [tenths] => decimal_digit(*tenths),
         _ => None,
     }
 }
 
-/// Returns the hundredths of a number up to 1,000, and more hundredths.
-fn with_hundredths(whole: Option<usize>, more: Option<usize>) -> Option<usize>
-    ensures { result ≡ with_hundredths whole more }
+/// Returns the thousandths of one to three digits after a decimal point.
+fn fraction_thousandths(digits: &[u8]) -> Option<usize>
+    ensures { result ≡ fraction_thousandths digits.now }
+{
+    match digits {
+        [tenths] => Some(100 * decimal_digit(*tenths)?),
+        [tenths, hundredths] => {
+            Some(100 * decimal_digit(*tenths)? + 10 * decimal_digit(*hundredths)?)
+        }
+        [tenths, hundredths, rest] => {
+            let tens = 100 * decimal_digit(*tenths)? + 10 * decimal_digit(*hundredths)?;
+            Some(tens + decimal_digit(*rest)?)
+        }
+        _ => None,
+    }
+}
+
+/// Returns the parts of a unit in a number up to 10,000 and more such parts, of which the unit has
+/// `parts`.
+fn with_fraction(parts: usize, whole: Option<usize>, more: Option<usize>) -> Option<usize>
+    requires { parts ≤ 1000 }
+    ensures { result ≡ with_fraction parts whole more }
 {
     match (whole, more) {
-        (Some(whole), Some(more)) if whole <= 1000 && more < 100 => Some(100 * whole + more),
+        (Some(whole), Some(more)) if whole <= 10_000 && more < parts => Some(parts * whole + more),
         _ => None,
     }
 }

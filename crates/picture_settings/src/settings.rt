@@ -12,11 +12,11 @@ pub struct Settings<'a> {
     pub scale: Option<usize>,
     /// The width of the quiet zone in modules, 0 to 16.
     pub quiet: Option<usize>,
-    /// The width of a module in hundredths of a millimetre, 5 to 1,000: of SVG, PNG, EPS and
-    /// PDF.
-    pub module_mm: Option<usize>,
-    /// The number of pixels in an inch, 50 to 2,400: of PNG, and not beside `module_mm`.
-    pub dpi: Option<usize>,
+    /// The width of a module in micrometres, 50 to 10,000: of SVG, PNG, EPS and PDF.
+    pub module_um: Option<usize>,
+    /// The number of pixels in ten inches, 500 to 24,000: of PNG, and not beside `module_um`. 2,032
+    /// are 8 in a millimetre.
+    pub dpi_tenths: Option<usize>,
     /// Whether the light pixels are filled, for a dark screen: of `Terminal`.
     pub inverted: bool,
     /// The title, a text of the characters that XML 1.0 allows: of SVG; of PNG and PDF, if it has
@@ -50,9 +50,9 @@ pub enum Setting {
     Scale,
     /// The field `quiet`.
     Quiet,
-    /// The field `module_mm`.
+    /// The field `module_um`.
     ModuleMm,
-    /// The field `dpi`.
+    /// The field `dpi_tenths`.
     Dpi,
     /// The field `inverted`.
     Inverted,
@@ -79,7 +79,8 @@ pub enum Setting {
 }
 
 impl Setting {
-    /// Returns the name of the field, such as `module_mm`.
+    /// Returns the name of the option in a configuration: that of the field, but `module_mm`, in
+    /// millimetres, and `dpi`, in pixels an inch.
     pub fn name(self) -> &'static str
         ensures { result.now ≡ setting_word self }
     {

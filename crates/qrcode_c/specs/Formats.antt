@@ -1,5 +1,5 @@
 -- The format and the settings of a picture, as a caller in C gives them.
-use Rattle.std.specs.Prelude.{◌≡◌, ◌≢◌, ◌↔◌, ℕ, ℤ, pos, negsuc, true, false, Option, Some, None, unwrap_or}
+use Rattle.std.specs.Prelude.{◌≡◌, ◌≢◌, ◌↔◌, ℕ, ◌*◌, ℤ, pos, negsuc, true, false, Option, Some, None, unwrap_or}
 use Rattle.picture_settings.specs.declared.format.Format.{Format}
 use Rattle.picture_settings.specs.declared.format.Format.TheVariants.{Terminal, Svg, Png, Pbm, Eps}
 use Rattle.picture_settings.specs.declared.format.Format.TheVariants.{EscPos, Zpl, Pdf}
@@ -27,6 +27,12 @@ abbrev pub given : ℤ → Option ℕ
 given (pos n) = Some n
 given (negsuc n) = None
 
+-- Ten times that: of hundredths of a millimetre the micrometres, and of the pixels in an inch those
+-- in ten inches.
+abbrev pub tenfold : ℤ → Option ℕ
+tenfold (pos n) = Some (10 * n)
+tenfold (negsuc n) = None
+
 -- The position whose parts are given. A part that is not given beside the other is 0.
 abbrev pub corner : (x y : Option ℕ) → Option (ℕ × ℕ)
 corner None None = None
@@ -38,8 +44,8 @@ corner None (Some y) = Some (0, y)
 pub record MeansSettings (asked : PictureSettings) (settings : Settings) : Type 0 where
   pub scale_is : settings.scale ≡ given asked.scale
   pub quiet_is : settings.quiet ≡ given asked.quiet
-  pub module_mm_is : settings.module_mm ≡ given asked.module_mm
-  pub dpi_is : settings.dpi ≡ given asked.dpi
+  pub module_is : settings.module_um ≡ tenfold asked.module_mm
+  pub dpi_is : settings.dpi_tenths ≡ tenfold asked.dpi
   pub inverted_is : (settings.inverted ≡ true) ↔ (asked.inverted ≢ pos 0)
   pub title_is : settings.title ≡ None
   pub caption_is : settings.caption ≡ None

@@ -1,6 +1,7 @@
 //! What a caller asks of a picture: its format, and settings.
 ghost use Rattle.std.specs.Prelude.{◌≡◌, IfSome, IfNone};
-ghost use Rattle.qrcode_c.specs.Formats.{format_argument, given, corner, IsNoFormat, MeansSettings};
+ghost use Rattle.qrcode_c.specs.Formats.{format_argument, given, tenfold, corner, IsNoFormat};
+ghost use Rattle.qrcode_c.specs.Formats.{MeansSettings};
 
 use crate::options::is_set;
 use qrcode_render::colors::NO_COLORS;
@@ -53,8 +54,8 @@ pub fn settings_of(asked: &PictureSettings) -> Settings<'_>
     Settings {
         scale: given(asked.scale),
         quiet: given(asked.quiet),
-        module_mm: given(asked.module_mm),
-        dpi: given(asked.dpi),
+        module_um: tenfold(asked.module_mm),
+        dpi_tenths: tenfold(asked.dpi),
         inverted: is_set(asked.inverted),
         title: None,
         caption: None,
@@ -73,6 +74,16 @@ fn given(number: i32) -> Option<usize>
     ensures { result ≡ given number }
 {
     usize::try_from(number).ok()
+}
+
+/// Returns ten times a number, or `None` if it is below 0.
+fn tenfold(number: i32) -> Option<usize>
+    ensures { result ≡ tenfold number }
+{
+    match u32::try_from(number) {
+        Ok(n) => Some(10 * n as usize),
+        Err(_) => None,
+    }
 }
 
 /// Returns the position whose parts are given. A part that is not given beside the other is 0.

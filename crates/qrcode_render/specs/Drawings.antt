@@ -28,18 +28,18 @@ IsPictureAs Terminal o p bytes =
     bytes ≡ terminal_captioned o.inverted (option_copied o.caption) p
 IsPictureAs Svg o p bytes =
     bytes
-    ≡ svg_captioned o.module_mm (option_copied o.title) (option_copied o.caption) o.colors p
+    ≡ svg_captioned o.module_um (option_copied o.title) (option_copied o.caption) o.colors p
 IsPictureAs Png o p bytes =
     read_png bytes
-    ≡ Some (png_file (per_metre o.scale o.module_mm o.dpi) (option_copied o.title) o.colors p)
+    ≡ Some (png_file (per_metre o.scale o.module_um o.dpi_tenths) (option_copied o.title) o.colors p)
 IsPictureAs Pbm o p bytes = bytes ≡ bitmap_of p
 IsPictureAs Eps o p bytes =
     bytes
-    ≡ eps_captioned o.module_mm (option_copied o.title) (option_copied o.caption) o.colors p
+    ≡ eps_captioned o.module_um (option_copied o.title) (option_copied o.caption) o.colors p
 IsPictureAs EscPos o p bytes = bytes ≡ ticket_text o.feed o.cut p
 IsPictureAs Zpl o p bytes = IsLabel o.compressed o.at (option_copied o.caption) o.copies p bytes
 IsPictureAs Pdf o p bytes =
-    bytes ≡ pdf_document (option_copied o.title) (pdf_page o.module_mm o.colors p ∷ [])
+    bytes ≡ pdf_document (option_copied o.title) (pdf_page o.module_um o.colors p ∷ [])
 
 -- The bytes show the grid as the options say.
 abbrev pub IsPictureOf : DrawOptions → Grid → List ℕ → Type 0
@@ -47,7 +47,7 @@ IsPictureOf o grid bytes = IsPictureAs o.format o (picture grid o.scale o.quiet)
 
 -- The page of a grid in a document, as the options say.
 abbrev pub page_as : DrawOptions → Grid → PdfPage
-page_as o grid = pdf_page o.module_mm o.colors (picture grid o.scale o.quiet)
+page_as o grid = pdf_page o.module_um o.colors (picture grid o.scale o.quiet)
 
 -- The bytes of a picture in a format.
 abbrev pub drawn_bytes : Drawn → List ℕ

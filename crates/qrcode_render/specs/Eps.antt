@@ -14,16 +14,16 @@ use Rattle.grid_pictures.specs.Paths.{path}
 use Rattle.grid_pictures.specs.Pens.{eps_rectangle}
 use Rattle.qrcode_render.specs.Captions.{high, hundredths, module_size}
 
--- The width of a module in points, of which an inch has 72: the scale, or the size that is given in
--- hundredths of a millimetre.
+-- The width of a module in points, of which an inch has 72: the scale, or the width that is given in
+-- micrometres.
 abbrev pub module_points : Option ℕ → (scale : ℕ) → List ℕ
 module_points None scale = decimal scale
-module_points (Some module_mm) scale = decimal module_mm ++ codes " 18 mul 635 div"
+module_points (Some module_um) scale = decimal module_um ++ codes " 18 mul 6350 div"
 
 -- A side of the bounding box: the least whole number of points that is not less than the side.
 abbrev pub box_side : Option ℕ → (scale modules : ℕ) → ℕ
 box_side None scale modules = modules * scale
-box_side (Some module_mm) scale modules = (modules * module_mm * 18 + 634) / 635
+box_side (Some module_um) scale modules = (modules * module_um * 18 + 6349) / 6350
 
 -- Thousandths, as a decimal number.
 unfoldable pub thousandths : ℕ → List ℕ
@@ -33,8 +33,8 @@ thousandths n =
 
 -- A side of the picture in points, where the size of a module is given: the least whole number of
 -- thousandths that is not less than the side.
-abbrev pub exact_side : (module_mm modules : ℕ) → List ℕ
-exact_side module_mm modules = thousandths ((modules * module_mm * 18000 + 634) / 635)
+abbrev pub exact_side : (module_um modules : ℕ) → List ℕ
+exact_side module_um modules = thousandths ((modules * module_um * 18000 + 6349) / 6350)
 
 -- The comments, up to the sides of the bounding box.
 unfoldable pub eps_head : (width height : ℕ) → List ℕ
@@ -49,14 +49,14 @@ exact_line width height =
 -- The sides of the picture, which are no whole points where the size of a module is given.
 abbrev pub exact_comment : Option ℕ → (columns rows : ℕ) → List ℕ
 exact_comment None columns rows = []
-exact_comment (Some module_mm) columns rows =
-    exact_line (exact_side module_mm columns) (exact_side module_mm rows)
+exact_comment (Some module_um) columns rows =
+    exact_line (exact_side module_um columns) (exact_side module_um rows)
 
 -- Both.
 abbrev pub eps_comments : Option ℕ → (scale columns rows : ℕ) → List ℕ
-eps_comments module_mm scale columns rows =
-    eps_head (box_side module_mm scale columns) (box_side module_mm scale rows)
-    ++ exact_comment module_mm columns rows
+eps_comments module_um scale columns rows =
+    eps_head (box_side module_um scale columns) (box_side module_um scale rows)
+    ++ exact_comment module_um columns rows
 
 -- The title, if there is one (Adobe, "PostScript Language Document Structuring Conventions",
 -- version 3.0), as a string.
@@ -99,14 +99,14 @@ eps_ink (Some color) = ps_color color ++ codes "\n"
 abbrev pub eps_end : List ℕ
 eps_end = codes "fill\nshowpage\n%%EOF\n"
 
--- The document of a picture, with the size of a module in hundredths of a millimetre, with a title
--- and with colours, if they are given.
-abbrev pub eps_document : (module_mm : Option ℕ) → (title : Option (List ℕ)) → Colors → Picture →
+-- The document of a picture, with the size of a module in micrometres, with a title and with
+-- colours, if they are given.
+abbrev pub eps_document : (module_um : Option ℕ) → (title : Option (List ℕ)) → Colors → Picture →
     List ℕ
-eps_document module_mm title colors p =
-    eps_comments module_mm p.scale (columns_of p) (rows_of p)
+eps_document module_um title colors p =
+    eps_comments module_um p.scale (columns_of p) (rows_of p)
     ++ (title_comment title
-    ++ (eps_setup (module_points module_mm p.scale) (rows_of p)
+    ++ (eps_setup (module_points module_um p.scale) (rows_of p)
     ++ (eps_ground colors.light (columns_of p) (rows_of p)
     ++ (eps_ink colors.dark ++ (path eps_rectangle p (rows_of p) ++ eps_end)))))
 
@@ -135,14 +135,14 @@ eps_finish (Some text) p = codes "fill\n" ++ (eps_caption text p ++ codes "showp
 -- The document of a picture, with a text below it, in rows of its own, if it is given.
 abbrev pub eps_captioned : Option ℕ → (title caption : Option (List ℕ)) → Colors → Picture →
     List ℕ
-eps_captioned module_mm title caption colors p =
-    eps_comments module_mm p.scale (columns_of p) (high caption (rows_of p))
+eps_captioned module_um title caption colors p =
+    eps_comments module_um p.scale (columns_of p) (high caption (rows_of p))
     ++ (title_comment title
-    ++ (eps_setup (module_points module_mm p.scale) (high caption (rows_of p))
+    ++ (eps_setup (module_points module_um p.scale) (high caption (rows_of p))
     ++ (eps_ground colors.light (columns_of p) (high caption (rows_of p))
     ++ (eps_ink colors.dark ++ (path eps_rectangle p (rows_of p) ++ eps_finish caption p)))))
 
 -- The document of a picture in black on white, with the size of a module if it is given, and
 -- no title.
 abbrev pub eps_text : Option ℕ → Picture → List ℕ
-eps_text module_mm p = eps_document module_mm None no_colors p
+eps_text module_um p = eps_document module_um None no_colors p

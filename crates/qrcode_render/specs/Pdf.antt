@@ -108,16 +108,16 @@ millionths n =
     ++ decimal (n % 10)))))))
 
 -- The width of a module in points, of which an inch has 72: the scale, or the size that is given in
--- hundredths of a millimetre, to the nearest millionth.
-abbrev pub module_width : (module_mm : Option ℕ) → (scale : ℕ) → List ℕ
+-- micrometres, to the nearest millionth.
+abbrev pub module_width : (module_um : Option ℕ) → (scale : ℕ) → List ℕ
 module_width None scale = decimal scale
-module_width (Some module_mm) scale = millionths (nearest (module_mm * 18000000) 635)
+module_width (Some module_um) scale = millionths (nearest (module_um * 18000000) 6350)
 
 -- A side of the page in points. Where the size of a module is given, it is rounded up
 -- to thousandths.
-abbrev pub page_side : (module_mm : Option ℕ) → (scale modules : ℕ) → List ℕ
+abbrev pub page_side : (module_um : Option ℕ) → (scale modules : ℕ) → List ℕ
 page_side None scale modules = decimal (modules * scale)
-page_side (Some module_mm) scale modules = exact_side module_mm modules
+page_side (Some module_um) scale modules = exact_side module_um modules
 
 -- A part of a colour as its share of 255, to the nearest thousandth.
 abbrev pub color_part : ℕ → List ℕ
@@ -151,21 +151,21 @@ pdf_units unit height =
     unit ++ (codes " 0 0 -" ++ (unit ++ (codes " 0 " ++ (height ++ codes " cm\n"))))
 
 -- The content stream of a picture on a page with these sides.
-abbrev pub picture_content : (module_mm : Option ℕ) → Colors → Picture →
+abbrev pub picture_content : (module_um : Option ℕ) → Colors → Picture →
     (width height : List ℕ) → List ℕ
-picture_content module_mm colors p width height =
+picture_content module_um colors p width height =
     pdf_ground colors.light width height
     ++ (pdf_ink colors.dark
-    ++ (pdf_units (module_width module_mm p.scale) height
+    ++ (pdf_units (module_width module_um p.scale) height
     ++ (path pdf_rectangle p (rows_of p) ++ codes "f")))
 
--- The page of a picture, with the size of a module in hundredths of a millimetre and with colours,
--- if they are given.
-abbrev pub pdf_page : (module_mm : Option ℕ) → Colors → Picture → PdfPage
-pdf_page module_mm colors p =
+-- The page of a picture, with the size of a module in micrometres and with colours, if they are
+-- given.
+abbrev pub pdf_page : (module_um : Option ℕ) → Colors → Picture → PdfPage
+pdf_page module_um colors p =
     record {
-      width = page_side module_mm p.scale (columns_of p);
-      height = page_side module_mm p.scale (rows_of p);
-      content = picture_content module_mm colors p (page_side module_mm p.scale (columns_of p))
-          (page_side module_mm p.scale (rows_of p));
+      width = page_side module_um p.scale (columns_of p);
+      height = page_side module_um p.scale (rows_of p);
+      content = picture_content module_um colors p (page_side module_um p.scale (columns_of p))
+          (page_side module_um p.scale (rows_of p));
     }

@@ -1,6 +1,6 @@
 -- A picture as SVG (Scalable Vector Graphics 1.1): a light background, and on it one path with a
 -- line for each run of dark modules in a row.
-use Rattle.std.specs.Prelude.{ℕ, ◌+◌, ◌*◌, ◌/◌, ◌%◌, Option, None, Some}
+use Rattle.std.specs.Prelude.{ℕ, ◌+◌, ◌*◌, ◌/◌, ◌%◌, ◌==◌, if◌then◌else◌, Option, None, Some}
 use Rattle.std.specs.Prelude.{List, [], ◌++◌, codes, decimal}
 use Rattle.picture_settings.specs.Colors.{no_colors}
 use Rattle.picture_settings.specs.Xml.{xml_text}
@@ -14,15 +14,17 @@ use Rattle.grid_pictures.specs.Pictures.{Picture, columns_of, rows_of, pixel_wid
 use Rattle.qrcode_render.specs.Captions.{high, high_pixels, hundredths, module_size}
 use Rattle.qrcode_render.specs.Zpl.{hex_pair}
 
--- Hundredths of a millimetre, as a decimal number of millimetres.
+-- Micrometres, as a decimal number of millimetres: two digits after the point, or three where the
+-- third is not 0.
 unfoldable pub millimetres : ℕ → List ℕ
 millimetres n =
-    decimal (n / 100) ++ (codes "." ++ (decimal (n / 10 % 10) ++ (decimal (n % 10) ++ codes "mm")))
+    decimal (n / 1000) ++ (codes "." ++ (decimal (n / 100 % 10) ++ (decimal (n / 10 % 10)
+    ++ (if n % 10 == 0 then codes "mm" else decimal (n % 10) ++ codes "mm"))))
 
 -- A side of the picture: in pixels, or in millimetres where the size of a module is given.
 abbrev pub svg_side : Option ℕ → (modules pixels : ℕ) → List ℕ
 svg_side None modules pixels = decimal pixels
-svg_side (Some module_mm) modules pixels = millimetres (modules * module_mm)
+svg_side (Some module_um) modules pixels = millimetres (modules * module_um)
 
 -- The first tag, with the sides of the picture, and with the view box in modules.
 unfoldable pub svg_tag : (width height : List ℕ) → (columns rows : ℕ) → List ℕ
@@ -86,32 +88,32 @@ svg_end None dark p = closing
 svg_end (Some text) dark p =
     codes "\"/>\n" ++ (caption_element text dark p ++ codes "</svg>\n")
 
--- The document of a picture, with the size of a module in hundredths of a millimetre, with a title,
--- with a text below it and with colours, if they are given. The text has rows of its own.
-abbrev pub svg_captioned : (module_mm : Option ℕ) → (title caption : Option (List ℕ)) → Colors →
+-- The document of a picture, with the size of a module in micrometres, with a title, with a text
+-- below it and with colours, if they are given. The text has rows of its own.
+abbrev pub svg_captioned : (module_um : Option ℕ) → (title caption : Option (List ℕ)) → Colors →
     Picture → List ℕ
-svg_captioned module_mm title caption colors p =
-    svg_tag (svg_side module_mm (columns_of p) (pixel_width p))
-    (svg_side module_mm (high caption (rows_of p)) (high_pixels caption p)) (columns_of p)
+svg_captioned module_um title caption colors p =
+    svg_tag (svg_side module_um (columns_of p) (pixel_width p))
+    (svg_side module_um (high caption (rows_of p)) (high_pixels caption p)) (columns_of p)
     (high caption (rows_of p))
     ++ (title_element title
     ++ (svg_ground colors.light (columns_of p) (high caption (rows_of p))
     ++ (path_start (stroke colors.dark) ++ (path rectangle p (rows_of p)
     ++ svg_end caption colors.dark p))))
 
--- The document of a picture, with the size of a module in hundredths of a millimetre, with a title
--- and with colours, if they are given.
-abbrev pub svg_colored : (module_mm : Option ℕ) → (title : Option (List ℕ)) → Colors → Picture →
+-- The document of a picture, with the size of a module in micrometres, with a title and with
+-- colours, if they are given.
+abbrev pub svg_colored : (module_um : Option ℕ) → (title : Option (List ℕ)) → Colors → Picture →
     List ℕ
-svg_colored module_mm title colors p =
-    svg_tag (svg_side module_mm (columns_of p) (pixel_width p))
-    (svg_side module_mm (rows_of p) (pixel_height p)) (columns_of p) (rows_of p)
+svg_colored module_um title colors p =
+    svg_tag (svg_side module_um (columns_of p) (pixel_width p))
+    (svg_side module_um (rows_of p) (pixel_height p)) (columns_of p) (rows_of p)
     ++ (title_element title ++ (svg_ground colors.light (columns_of p) (rows_of p)
     ++ (path_start (stroke colors.dark) ++ (path rectangle p (rows_of p) ++ closing))))
 
 -- The same in black on white.
-abbrev pub svg_document : (module_mm : Option ℕ) → (title : Option (List ℕ)) → Picture → List ℕ
-svg_document module_mm title p = svg_colored module_mm title no_colors p
+abbrev pub svg_document : (module_um : Option ℕ) → (title : Option (List ℕ)) → Picture → List ℕ
+svg_document module_um title p = svg_colored module_um title no_colors p
 
 -- The document of a picture, with neither.
 abbrev pub svg_text : Picture → List ℕ

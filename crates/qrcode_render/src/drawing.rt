@@ -93,8 +93,8 @@ pub(crate) fn draw_as(
             Ok(Drawn::Text(text))
         }
         Format::Svg => {
-            let (module_mm, texts) = (options.module_mm, texts(options));
-            let text = svg_captioned(alloc, picture, module_mm, texts, options.colors)?;
+            let (module_um, texts) = (options.module_um, texts(options));
+            let text = svg_captioned(alloc, picture, module_um, texts, options.colors)?;
             Ok(Drawn::Text(text))
         }
         Format::Png => {
@@ -104,8 +104,8 @@ pub(crate) fn draw_as(
         }
         Format::Pbm => Ok(Drawn::Bytes(pbm(alloc, picture)?)),
         Format::Eps => {
-            let (module_mm, texts) = (options.module_mm, texts(options));
-            let text = eps_captioned(alloc, picture, module_mm, texts, options.colors)?;
+            let (module_um, texts) = (options.module_um, texts(options));
+            let text = eps_captioned(alloc, picture, module_um, texts, options.colors)?;
             Ok(Drawn::Text(text))
         }
         Format::EscPos => {
@@ -144,10 +144,10 @@ fn zpl(alloc: Global, picture: &Picture, options: &DrawOptions) -> Result<Vec<u8
 /// Returns the document of the options.
 fn pdf(alloc: Global, picture: &Picture, options: &DrawOptions) -> Result<Vec<u8>, AllocError>
     ensures { IfOk result (λ bytes. bytes.items ≡ pdf_document (option_copied options.now.title)
-        (pdf_page options.now.module_mm options.now.colors (shown picture.now) ∷ [])) }
+        (pdf_page options.now.module_um options.now.colors (shown picture.now) ∷ [])) }
 {
-    let (module_mm, title) = (options.module_mm, options.title);
-    pdf_document(alloc, picture, module_mm, title, options.colors)
+    let (module_um, title) = (options.module_um, options.title);
+    pdf_document(alloc, picture, module_um, title, options.colors)
 }
 
 /// Returns the scale and the quiet zone of the options.
@@ -163,12 +163,13 @@ pub(crate) fn shape(options: &DrawOptions) -> RenderOptions
 
 /// Returns the number of pixels in a metre, if the options say it.
 fn pixels_per_metre(options: &DrawOptions) -> Option<u32>
-    ensures exact { result ≡ per_metre options.now.scale options.now.module_mm options.now.dpi }
+    ensures exact { result
+        ≡ per_metre options.now.scale options.now.module_um options.now.dpi_tenths }
     ensures small { IfSome result (λ n. n < 2 ^ 31) }
 {
-    match (options.module_mm, options.dpi) {
-        (Some(module_mm), _) => Some(nearest(options.scale * 100_000, module_mm)),
-        (None, Some(dpi)) => Some(nearest(dpi * 10_000, 254)),
+    match (options.module_um, options.dpi_tenths) {
+        (Some(module_um), _) => Some(nearest(options.scale * 1_000_000, module_um)),
+        (None, Some(dpi_tenths)) => Some(nearest(dpi_tenths * 1000, 254)),
         (None, None) => None,
     }
 }
@@ -177,7 +178,7 @@ fn pixels_per_metre(options: &DrawOptions) -> Option<u32>
 fn nearest(dividend: usize, divisor: usize) -> u32
     requires some { 0 < divisor }
     requires small { divisor < 2 ^ 20 }
-    requires few { dividend < 2 ^ 25 }
+    requires few { dividend < 2 ^ 26 }
     ensures exact { result ≡ nearest dividend divisor }
     ensures small { result < 2 ^ 31 }
 {

@@ -2,7 +2,7 @@
 ghost use Rattle.std.specs.Prelude.{◌≡◌, ◌≤◌, ◌++◌, None, Some, IfOk, OnOk};
 ghost use Rattle.std.specs.Option.{ForSome, option_copied};
 ghost use Rattle.std.specs.String.{string_bytes};
-ghost use Rattle.picture_settings.specs.declared.bounds.TheConstants.{MAX_COLUMNS, MAX_HIGH, MAX_MODULE_MM};
+ghost use Rattle.picture_settings.specs.declared.bounds.TheConstants.{MAX_COLUMNS, MAX_HIGH, MAX_MODULE_UM};
 ghost use Rattle.picture_settings.specs.declared.bounds.TheConstants.{MAX_SCALE};
 ghost use Rattle.grid_pictures.specs.Picture.{shown};
 ghost use Rattle.qrcode_render.specs.Eps.{box_side, eps_document, eps_head, eps_setup, eps_text};
@@ -22,34 +22,34 @@ use std::alloc::{AllocError, Global};
 
 /// Returns the picture as Encapsulated PostScript: a light background, and one path with a
 /// rectangle for each run of dark modules in a row. A module is `scale` points wide, or has the
-/// width in hundredths of a millimetre that is given. It fails only for lack of memory.
-pub fn eps(alloc: Global, picture: &Picture, module_mm: Option<usize>) -> Result<String, AllocError>
-    requires { ForSome module_mm (λ n. n ≤ MAX_MODULE_MM) }
-    ensures { IfOk result (λ text. string_bytes text ≡ eps_text module_mm (shown picture.now)) }
+/// width in micrometres that is given. It fails only for lack of memory.
+pub fn eps(alloc: Global, picture: &Picture, module_um: Option<usize>) -> Result<String, AllocError>
+    requires { ForSome module_um (λ n. n ≤ MAX_MODULE_UM) }
+    ensures { IfOk result (λ text. string_bytes text ≡ eps_text module_um (shown picture.now)) }
 {
-    eps_document(alloc, picture, module_mm, None, NO_COLORS)
+    eps_document(alloc, picture, module_um, None, NO_COLORS)
 }
 
-/// Returns the picture as Encapsulated PostScript, with the width of a module in hundredths of a
-/// millimetre, with a title and with colours, if they are given. A reader of PostScript finds
-/// exactly the bytes of the title (`laws::strings_are_read`). A transparent ground is no
-/// background. It fails only for lack of memory.
+/// Returns the picture as Encapsulated PostScript, with the width of a module in micrometres, with
+/// a title and with colours, if they are given. A reader of PostScript finds exactly the bytes of
+/// the title (`laws::strings_are_read`). A transparent ground is no background. It fails only for
+/// lack of memory.
 pub fn eps_document(
     alloc: Global,
     picture: &Picture,
-    module_mm: Option<usize>,
+    module_um: Option<usize>,
     title: Option<&str>,
     colors: Colors,
 ) -> Result<String, AllocError>
-    requires { ForSome module_mm (λ n. n ≤ MAX_MODULE_MM) }
+    requires { ForSome module_um (λ n. n ≤ MAX_MODULE_UM) }
     ensures { IfOk result (λ text. string_bytes text ≡
-        eps_document module_mm (option_copied title.entry) colors (shown picture.now)) }
+        eps_document module_um (option_copied title.entry) colors (shown picture.now)) }
 {
     let texts = Texts {
         title,
         caption: None,
     };
-    eps_captioned(alloc, picture, module_mm, texts, colors)
+    eps_captioned(alloc, picture, module_um, texts, colors)
 }
 
 /// Returns the picture as `eps_document` has it, with a text below it, in rows of its own, if it is
@@ -57,21 +57,21 @@ pub fn eps_document(
 pub fn eps_captioned(
     alloc: Global,
     picture: &Picture,
-    module_mm: Option<usize>,
+    module_um: Option<usize>,
     texts: Texts,
     colors: Colors,
 ) -> Result<String, AllocError>
-    requires { ForSome module_mm (λ n. n ≤ MAX_MODULE_MM) }
+    requires { ForSome module_um (λ n. n ≤ MAX_MODULE_UM) }
     ensures { IfOk result (λ text. string_bytes text ≡
-        eps_captioned module_mm (option_copied texts.entry.title)
+        eps_captioned module_um (option_copied texts.entry.title)
         (option_copied texts.entry.caption) colors (shown picture.now)) }
 {
     let caption = texts.caption;
     let (columns, scale) = (picture.columns(), picture.scale());
     let rows = high(caption, picture.rows());
-    let mut text = comments(alloc, module_mm, scale, columns, rows)?;
+    let mut text = comments(alloc, module_um, scale, columns, rows)?;
     push_title(&mut text, texts.title)?;
-    let points = module_points(alloc, module_mm, scale)?;
+    let points = module_points(alloc, module_um, scale)?;
     let setup = setup(alloc, &points, rows)?;
     text.push_str(setup.as_str())?;
     let ground = ground(alloc, colors.light, columns, rows)?;
@@ -139,25 +139,25 @@ fn caption_end(alloc: Global, columns: usize, y: usize) -> Result<String, AllocE
 /// Returns the comments up to the sides of the picture.
 fn comments(
     alloc: Global,
-    module_mm: Option<usize>,
+    module_um: Option<usize>,
     scale: usize,
     columns: usize,
     rows: usize,
 ) -> Result<String, AllocError>
-    requires small { ForSome module_mm (λ n. n ≤ MAX_MODULE_MM) }
+    requires small { ForSome module_um (λ n. n ≤ MAX_MODULE_UM) }
     requires small_scale { scale ≤ MAX_SCALE }
     requires few_columns { columns ≤ MAX_COLUMNS }
     requires few_rows { rows ≤ MAX_HIGH }
     ensures { IfOk result (λ text.
-        string_bytes text ≡ eps_comments module_mm scale columns rows) }
+        string_bytes text ≡ eps_comments module_um scale columns rows) }
 {
     let (width, height) = (
-        box_side(module_mm, scale, columns),
-        box_side(module_mm, scale, rows),
+        box_side(module_um, scale, columns),
+        box_side(module_um, scale, rows),
     );
     let mut text = head(alloc, width, height)?;
-    if let Some(module_mm) = module_mm {
-        push_exact(alloc, &mut text, module_mm, columns, rows)?;
+    if let Some(module_um) = module_um {
+        push_exact(alloc, &mut text, module_um, columns, rows)?;
     }
     Ok(text)
 }
@@ -166,18 +166,18 @@ fn comments(
 fn push_exact(
     alloc: Global,
     text: &mut String,
-    module_mm: usize,
+    module_um: usize,
     columns: usize,
     rows: usize,
 ) -> Result<(), AllocError>
-    requires small { module_mm ≤ MAX_MODULE_MM }
+    requires small { module_um ≤ MAX_MODULE_UM }
     requires few_columns { columns ≤ MAX_COLUMNS }
     requires few_rows { rows ≤ MAX_HIGH }
     ensures { OnOk result (string_bytes text.new ≡
-        string_bytes text.old ++ exact_comment (Some module_mm) columns rows) }
+        string_bytes text.old ++ exact_comment (Some module_um) columns rows) }
 {
-    let width = exact_side(alloc, module_mm, columns)?;
-    let height = exact_side(alloc, module_mm, rows)?;
+    let width = exact_side(alloc, module_um, columns)?;
+    let height = exact_side(alloc, module_um, rows)?;
     let line = exact_line(alloc, width.as_str(), height.as_str())?;
     text.push_str(line.as_str())
 }
@@ -193,14 +193,14 @@ fn exact_line(alloc: Global, width: &str, height: &str) -> Result<String, AllocE
 /// Returns a side of the picture in points, rounded up to thousandths.
 pub(crate) fn exact_side(
     alloc: Global,
-    module_mm: usize,
+    module_um: usize,
     modules: usize,
 ) -> Result<String, AllocError>
-    requires small { module_mm ≤ MAX_MODULE_MM }
+    requires small { module_um ≤ MAX_MODULE_UM }
     requires few { modules ≤ MAX_HIGH }
-    ensures { IfOk result (λ text. string_bytes text ≡ exact_side module_mm modules) }
+    ensures { IfOk result (λ text. string_bytes text ≡ exact_side module_um modules) }
 {
-    thousandths(alloc, (modules * module_mm * 18_000).div_ceil(635))
+    thousandths(alloc, (modules * module_um * 18_000).div_ceil(6350))
 }
 
 /// Returns thousandths as a decimal number.
@@ -226,14 +226,14 @@ fn push_title(text: &mut String, title: Option<&str>) -> Result<(), AllocError>
 }
 
 /// Returns a side of the bounding box in points.
-fn box_side(module_mm: Option<usize>, scale: usize, modules: usize) -> usize
-    requires small { ForSome module_mm (λ n. n ≤ MAX_MODULE_MM) }
+fn box_side(module_um: Option<usize>, scale: usize, modules: usize) -> usize
+    requires small { ForSome module_um (λ n. n ≤ MAX_MODULE_UM) }
     requires small_scale { scale ≤ MAX_SCALE }
     requires few { modules ≤ MAX_HIGH }
-    ensures { result ≡ box_side module_mm scale modules }
+    ensures { result ≡ box_side module_um scale modules }
 {
-    match module_mm {
-        Some(module_mm) => (modules * module_mm * 18).div_ceil(635),
+    match module_um {
+        Some(module_um) => (modules * module_um * 18).div_ceil(6350),
         None => modules * scale,
     }
 }
@@ -241,13 +241,13 @@ fn box_side(module_mm: Option<usize>, scale: usize, modules: usize) -> usize
 /// Returns the width of a module in points, as PostScript computes it.
 fn module_points(
     alloc: Global,
-    module_mm: Option<usize>,
+    module_um: Option<usize>,
     scale: usize,
 ) -> Result<String, AllocError>
-    ensures { IfOk result (λ text. string_bytes text ≡ module_points module_mm scale) }
+    ensures { IfOk result (λ text. string_bytes text ≡ module_points module_um scale) }
 {
-    match module_mm {
-        Some(module_mm) => format!(in alloc; "{module_mm} 18 mul 635 div"),
+    match module_um {
+        Some(module_um) => format!(in alloc; "{module_um} 18 mul 6350 div"),
         None => format!(in alloc; "{scale}"),
     }
 }

@@ -2,7 +2,7 @@
 //! the picture.
 ghost use Rattle.std.specs.Prelude.{◌≡◌, ◌≤◌, [], ◌∷◌, None, IfOk};
 ghost use Rattle.std.specs.Option.{ForSome, option_copied};
-ghost use Rattle.picture_settings.specs.declared.bounds.TheConstants.{MAX_MODULE_MM};
+ghost use Rattle.picture_settings.specs.declared.bounds.TheConstants.{MAX_MODULE_UM};
 ghost use Rattle.picture_settings.specs.Colors.{no_colors};
 ghost use Rattle.grid_pictures.specs.Picture.{shown};
 ghost use Rattle.qrcode_render.specs.Pdf.{pdf_document, pdf_page};
@@ -15,34 +15,34 @@ use std::alloc::{AllocError, Global};
 
 /// Returns the picture as a PDF document of one page: a light background, and one path with a
 /// rectangle for each run of dark modules in a row. A module is `scale` points wide, or has the
-/// width in hundredths of a millimetre that is given. It fails only for lack of memory.
+/// width in micrometres that is given. It fails only for lack of memory.
 pub fn pdf(
     alloc: Global,
     picture: &Picture,
-    module_mm: Option<usize>,
+    module_um: Option<usize>,
 ) -> Result<Vec<u8>, AllocError>
-    requires { ForSome module_mm (λ n. n ≤ MAX_MODULE_MM) }
+    requires { ForSome module_um (λ n. n ≤ MAX_MODULE_UM) }
     ensures { IfOk result (λ bytes. bytes.items
-        ≡ pdf_document None (pdf_page module_mm no_colors (shown picture.now) ∷ [])) }
+        ≡ pdf_document None (pdf_page module_um no_colors (shown picture.now) ∷ [])) }
 {
-    pdf_document(alloc, picture, module_mm, None, NO_COLORS)
+    pdf_document(alloc, picture, module_um, None, NO_COLORS)
 }
 
-/// Returns the picture as a PDF document of one page, with the width of a module in hundredths of a
-/// millimetre, with a title and with colours, if they are given. A transparent ground is no
-/// background. It fails only for lack of memory.
+/// Returns the picture as a PDF document of one page, with the width of a module in micrometres,
+/// with a title and with colours, if they are given. A transparent ground is no background. It
+/// fails only for lack of memory.
 pub fn pdf_document(
     alloc: Global,
     picture: &Picture,
-    module_mm: Option<usize>,
+    module_um: Option<usize>,
     title: Option<&str>,
     colors: Colors,
 ) -> Result<Vec<u8>, AllocError>
-    requires { ForSome module_mm (λ n. n ≤ MAX_MODULE_MM) }
+    requires { ForSome module_um (λ n. n ≤ MAX_MODULE_UM) }
     ensures { IfOk result (λ bytes. bytes.items ≡ pdf_document (option_copied title.entry)
-        (pdf_page module_mm colors (shown picture.now) ∷ [])) }
+        (pdf_page module_um colors (shown picture.now) ∷ [])) }
 {
-    let page = draw_page(alloc, picture, module_mm, colors)?;
+    let page = draw_page(alloc, picture, module_um, colors)?;
     let mut bytes = start_text(alloc, title)?;
     let start = bytes.len();
     let first = push_page(alloc, &mut bytes, 4, &page)?;

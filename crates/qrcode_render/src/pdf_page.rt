@@ -2,7 +2,7 @@
 ghost use Rattle.std.specs.Prelude.{◌≡◌, ◌≤◌, IfOk};
 ghost use Rattle.std.specs.Option.{ForSome};
 ghost use Rattle.std.specs.String.{string_bytes};
-ghost use Rattle.picture_settings.specs.declared.bounds.TheConstants.{MAX_COLUMNS, MAX_MODULE_MM};
+ghost use Rattle.picture_settings.specs.declared.bounds.TheConstants.{MAX_COLUMNS, MAX_MODULE_UM};
 ghost use Rattle.picture_settings.specs.declared.bounds.TheConstants.{MAX_SCALE};
 ghost use Rattle.grid_pictures.specs.Picture.{shown};
 ghost use Rattle.qrcode_render.specs.Pdf.{color_part, millionths, module_width, page_side};
@@ -25,24 +25,24 @@ pub(crate) struct Page {
     pub content: String,
 }
 
-/// Returns the page of a picture, with the width of a module in hundredths of a millimetre and with
-/// colours, if they are given.
+/// Returns the page of a picture, with the width of a module in micrometres and with colours, if
+/// they are given.
 pub(crate) fn draw_page(
     alloc: Global,
     picture: &Picture,
-    module_mm: Option<usize>,
+    module_um: Option<usize>,
     colors: Colors,
 ) -> Result<Page, AllocError>
-    requires { ForSome module_mm (λ n. n ≤ MAX_MODULE_MM) }
-    ensures { IfOk result (λ page. page_of page ≡ pdf_page module_mm colors (shown picture.now)) }
+    requires { ForSome module_um (λ n. n ≤ MAX_MODULE_UM) }
+    ensures { IfOk result (λ page. page_of page ≡ pdf_page module_um colors (shown picture.now)) }
 {
     let scale = picture.scale();
-    let width = page_side(alloc, module_mm, scale, picture.columns())?;
-    let height = page_side(alloc, module_mm, scale, picture.rows())?;
+    let width = page_side(alloc, module_um, scale, picture.columns())?;
+    let height = page_side(alloc, module_um, scale, picture.rows())?;
     let mut content = ground(alloc, colors.light, &width, &height)?;
     let ink = ink(alloc, colors.dark)?;
     content.push_str(ink.as_str())?;
-    let unit = module_width(alloc, module_mm, scale)?;
+    let unit = module_width(alloc, module_um, scale)?;
     let units = units(alloc, &unit, &height)?;
     content.push_str(units.as_str())?;
     push_path(&mut content, picture, Pen::Pdf)?;
@@ -57,17 +57,17 @@ pub(crate) fn draw_page(
 /// Returns a side of the page in points.
 fn page_side(
     alloc: Global,
-    module_mm: Option<usize>,
+    module_um: Option<usize>,
     scale: usize,
     modules: usize,
 ) -> Result<String, AllocError>
-    requires small { ForSome module_mm (λ n. n ≤ MAX_MODULE_MM) }
+    requires small { ForSome module_um (λ n. n ≤ MAX_MODULE_UM) }
     requires small_scale { scale ≤ MAX_SCALE }
     requires few { modules ≤ MAX_COLUMNS }
-    ensures { IfOk result (λ text. string_bytes text ≡ page_side module_mm scale modules) }
+    ensures { IfOk result (λ text. string_bytes text ≡ page_side module_um scale modules) }
 {
-    match module_mm {
-        Some(module_mm) => exact_side(alloc, module_mm, modules),
+    match module_um {
+        Some(module_um) => exact_side(alloc, module_um, modules),
         None => {
             let side = modules * scale;
             format!(in alloc; "{side}")
@@ -76,12 +76,12 @@ fn page_side(
 }
 
 /// Returns the width of a module in points.
-fn module_width(alloc: Global, module_mm: Option<usize>, scale: usize) -> Result<String, AllocError>
-    requires { ForSome module_mm (λ n. n ≤ MAX_MODULE_MM) }
-    ensures { IfOk result (λ text. string_bytes text ≡ module_width module_mm scale) }
+fn module_width(alloc: Global, module_um: Option<usize>, scale: usize) -> Result<String, AllocError>
+    requires { ForSome module_um (λ n. n ≤ MAX_MODULE_UM) }
+    ensures { IfOk result (λ text. string_bytes text ≡ module_width module_um scale) }
 {
-    match module_mm {
-        Some(module_mm) => millionths(alloc, (2 * (module_mm * 18_000_000) + 635) / 1270),
+    match module_um {
+        Some(module_um) => millionths(alloc, (2 * (module_um * 18_000_000) + 6350) / 12_700),
         None => format!(in alloc; "{scale}"),
     }
 }

@@ -14,7 +14,7 @@
 ghost use Rattle.std.specs.Prelude.{◌≡◌, ◌<◌, ◌≤◌, ◌^◌, IfOk, OnErr, OnOk, Err};
 ghost use Rattle.std.specs.Option.{ForSome, option_copied};
 ghost use Rattle.qrcode_core.specs.Symbol.{drawn_grid};
-ghost use Rattle.picture_settings.specs.declared.bounds.TheConstants.{MAX_MODULE_MM, MAX_PDF};
+ghost use Rattle.picture_settings.specs.declared.bounds.TheConstants.{MAX_MODULE_UM, MAX_PDF};
 ghost use Rattle.grid_pictures.specs.Picture.{shown};
 ghost use Rattle.qrcode_render.specs.declared.pdf_pages.PdfError.TheVariants.{OutOfMemory};
 ghost use Rattle.qrcode_render.specs.Drawings.{page_as};
@@ -106,29 +106,29 @@ impl PdfPages {
         ensures unchanged { OnErr result (self.new ≡ self.old) }
     {
         let picture = Picture::of_symbol(symbol, shape(options));
-        self.picture(alloc, &picture, options.module_mm, options.colors)
+        self.picture(alloc, &picture, options.module_um, options.colors)
     }
 
-    /// Returns the page of a picture, as `page` does, with the width of a module in hundredths of a
-    /// millimetre and with colours, if they are given.
+    /// Returns the page of a picture, as `page` does, with the width of a module in micrometres and
+    /// with colours, if they are given.
     pub fn picture(
         &mut self,
         alloc: Global,
         picture: &Picture,
-        module_mm: Option<usize>,
+        module_um: Option<usize>,
         colors: Colors,
     ) -> Result<Vec<u8>, PdfError>
-        requires { ForSome module_mm (λ n. n ≤ MAX_MODULE_MM) }
+        requires { ForSome module_um (λ n. n ≤ MAX_MODULE_UM) }
         ensures page { IfOk result (λ bytes. bytes.items
-            ≡ next_page self.old (pdf_page module_mm colors (shown picture.now))) }
+            ≡ next_page self.old (pdf_page module_um colors (shown picture.now))) }
         ensures after { OnOk result (self.new
-            ≡ after_page self.old (pdf_page module_mm colors (shown picture.now))) }
+            ≡ after_page self.old (pdf_page module_um colors (shown picture.now))) }
         ensures fits { OnOk result (self.new.size ≤ MAX_PDF) }
         ensures no_room { result ≡ Err PdfError.TooLong → MAX_PDF
-            < (after_page self.old (pdf_page module_mm colors (shown picture.now))).size }
+            < (after_page self.old (pdf_page module_um colors (shown picture.now))).size }
         ensures unchanged { OnErr result (self.new ≡ self.old) }
     {
-        let page = draw_page(alloc, picture, module_mm, colors)?;
+        let page = draw_page(alloc, picture, module_um, colors)?;
         let mut bytes = Vec::new(alloc);
         let first = push_page(alloc, &mut bytes, self.offsets.len() + 4, &page)?;
         let size = self.size + bytes.len();

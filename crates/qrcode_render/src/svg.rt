@@ -2,7 +2,7 @@
 ghost use Rattle.std.specs.Prelude.{◌≡◌, ◌<◌, ◌≤◌, ◌++◌, [], ◌∷◌, None, IfOk, OnOk};
 ghost use Rattle.std.specs.Option.{ForSome, option_copied};
 ghost use Rattle.std.specs.String.{string_bytes};
-ghost use Rattle.picture_settings.specs.declared.bounds.TheConstants.{MAX_HIGH, MAX_MODULE_MM};
+ghost use Rattle.picture_settings.specs.declared.bounds.TheConstants.{MAX_HIGH, MAX_MODULE_UM};
 ghost use Rattle.grid_pictures.specs.Picture.{shown};
 ghost use Rattle.qrcode_render.specs.Svg.{background, hex_color, millimetres, path_start, stroke};
 ghost use Rattle.qrcode_render.specs.Svg.{svg_colored, svg_document, svg_ground, svg_side};
@@ -28,20 +28,20 @@ pub fn svg(alloc: Global, picture: &Picture) -> Result<String, AllocError>
     svg_document(alloc, picture, None, None)
 }
 
-/// Returns the picture as SVG, with the width of a module in hundredths of a millimetre and with a
-/// title, if they are given. A reader finds exactly the title, if XML allows its characters
+/// Returns the picture as SVG, with the width of a module in micrometres and with a title, if they
+/// are given. A reader finds exactly the title, if XML allows its characters
 /// (`laws::texts_are_read`). It fails only for lack of memory.
 pub fn svg_document(
     alloc: Global,
     picture: &Picture,
-    module_mm: Option<usize>,
+    module_um: Option<usize>,
     title: Option<&str>,
 ) -> Result<String, AllocError>
-    requires { ForSome module_mm (λ n. n ≤ MAX_MODULE_MM) }
+    requires { ForSome module_um (λ n. n ≤ MAX_MODULE_UM) }
     ensures { IfOk result (λ text. string_bytes text ≡
-        svg_document module_mm (option_copied title.entry) (shown picture.now)) }
+        svg_document module_um (option_copied title.entry) (shown picture.now)) }
 {
-    svg_colored(alloc, picture, module_mm, title, NO_COLORS)
+    svg_colored(alloc, picture, module_um, title, NO_COLORS)
 }
 
 /// Returns the picture as `svg_document` has it, with the path and the background in colours, if
@@ -49,19 +49,19 @@ pub fn svg_document(
 pub fn svg_colored(
     alloc: Global,
     picture: &Picture,
-    module_mm: Option<usize>,
+    module_um: Option<usize>,
     title: Option<&str>,
     colors: Colors,
 ) -> Result<String, AllocError>
-    requires { ForSome module_mm (λ n. n ≤ MAX_MODULE_MM) }
+    requires { ForSome module_um (λ n. n ≤ MAX_MODULE_UM) }
     ensures { IfOk result (λ text. string_bytes text ≡
-        svg_colored module_mm (option_copied title.entry) colors (shown picture.now)) }
+        svg_colored module_um (option_copied title.entry) colors (shown picture.now)) }
 {
     let texts = Texts {
         title,
         caption: None,
     };
-    svg_captioned(alloc, picture, module_mm, texts, colors)
+    svg_captioned(alloc, picture, module_um, texts, colors)
 }
 
 /// Returns the picture as `svg_colored` has it, with a text below it, in rows of its own, if it is
@@ -69,20 +69,20 @@ pub fn svg_colored(
 pub fn svg_captioned(
     alloc: Global,
     picture: &Picture,
-    module_mm: Option<usize>,
+    module_um: Option<usize>,
     texts: Texts,
     colors: Colors,
 ) -> Result<String, AllocError>
-    requires { ForSome module_mm (λ n. n ≤ MAX_MODULE_MM) }
+    requires { ForSome module_um (λ n. n ≤ MAX_MODULE_UM) }
     ensures { IfOk result (λ text. string_bytes text ≡
-        svg_captioned module_mm (option_copied texts.entry.title)
+        svg_captioned module_um (option_copied texts.entry.title)
         (option_copied texts.entry.caption) colors (shown picture.now)) }
 {
     let caption = texts.caption;
     let columns = picture.columns();
     let rows = high(caption, picture.rows());
-    let width = side(alloc, module_mm, columns, picture.width())?;
-    let height = side(alloc, module_mm, rows, high_pixels(caption, picture))?;
+    let width = side(alloc, module_um, columns, picture.width())?;
+    let height = side(alloc, module_um, rows, high_pixels(caption, picture))?;
     let mut text = tag(alloc, &width, &height, columns, rows)?;
     push_title(&mut text, texts.title)?;
     let ground = ground(alloc, colors.light, columns, rows)?;
@@ -146,20 +146,25 @@ fn caption_tag(alloc: Global, y: usize, size: &str, color: &str) -> Result<Strin
 #[tactic(auto, unfolding(crate::specs::Svg::millimetres))]
 fn side(
     alloc: Global,
-    module_mm: Option<usize>,
+    module_um: Option<usize>,
     modules: usize,
     pixels: usize,
 ) -> Result<String, AllocError>
-    requires small { ForSome module_mm (λ n. n ≤ MAX_MODULE_MM) }
+    requires small { ForSome module_um (λ n. n ≤ MAX_MODULE_UM) }
     requires few { modules ≤ MAX_HIGH }
-    ensures { IfOk result (λ text. string_bytes text ≡ svg_side module_mm modules pixels) }
+    ensures { IfOk result (λ text. string_bytes text ≡ svg_side module_um modules pixels) }
 {
-    let Some(module_mm) = module_mm else {
+    let Some(module_um) = module_um else {
         return format!(in alloc; "{pixels}");
     };
-    let size = modules * module_mm;
-    let (whole, tenths, rest) = (size / 100, size / 10 % 10, size % 10);
-    format!(in alloc; "{whole}.{tenths}{rest}mm")
+    let size = modules * module_um;
+    let (whole, tenths) = (size / 1000, size / 100 % 10);
+    let (hundredths, rest) = (size / 10 % 10, size % 10);
+    if rest == 0 {
+        format!(in alloc; "{whole}.{tenths}{hundredths}mm")
+    } else {
+        format!(in alloc; "{whole}.{tenths}{hundredths}{rest}mm")
+    }
 }
 
 /// Returns the first tag.

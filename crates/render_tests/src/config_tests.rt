@@ -5,7 +5,7 @@ use qrcode_core::plugin::{DynRenderer, PluginError, RenderConfig};
 use qrcode_core::types::Color;
 use qrcode_render::config::settings_of_config;
 use qrcode_render::option_words::{
-    flag_of_word, hundredths_of_word, number_of_word, position_of_word,
+    flag_of_word, number_of_word, position_of_word, tenths_of_word, thousandths_of_word,
 };
 use qrcode_render::{DrawOptions, Eps, EscPos, Format, Pbm, Pdf, Png, Setting, Svg, Terminal, Zpl};
 use std::alloc::Global;
@@ -27,7 +27,7 @@ const EPS: &str = "%!PS-Adobe-3.0 EPSF-3.0
 %%LanguageLevel: 2
 %%EndComments
 /r{moveto dup 0 rlineto 0 1 rlineto neg 0 rlineto closepath}bind def
-33 18 mul 635 div dup scale 0 28 translate 1 -1 scale
+330 18 mul 6350 div dup scale 0 28 translate 1 -1 scale
 255 255 div 245 255 div 204 255 div setrgbcolor 0 0 29 28 rectfill \
 26 255 div 43 255 div 92 255 div setrgbcolor
 1 13 13 r
@@ -88,6 +88,20 @@ fn draws_all_options_of_png(rt: HostRuntime) {
     // 8 pixels in 0.5 mm are 16,000 in a metre.
     let options = [("module_mm", "0.5")];
     assert!(rt; draws_at(alloc, &Png, &options, 33, b"\0\0\0\x09pHYs\0\0\x3E\x80"));
+}
+
+/// Sizes have up to three digits after the point, and resolutions one: 29 modules of 0.396 mm are
+/// 11.484 mm, 8 pixels in 0.125 mm are 64,000 in a metre, and 203.2 in an inch are 8,000.
+#[test]
+fn takes_decimals(rt: HostRuntime) {
+    let alloc = rt.alloc();
+    let options = [("quiet", "13"), ("module_mm", "0.396")];
+    let side = b" width=\"11.484mm\" height=\"11.088mm\"";
+    assert!(rt; draws_at(alloc, &Svg, &options, 39, side));
+    let options = [("module_mm", "0.125")];
+    assert!(rt; draws_at(alloc, &Png, &options, 33, b"\0\0\0\x09pHYs\0\0\xFA\0"));
+    let options = [("dpi", "203.2")];
+    assert!(rt; draws_at(alloc, &Png, &options, 33, b"\0\0\0\x09pHYs\0\0\x1F\x40"));
 }
 
 /// Labels have a position, copies and compressed data; paper is moved and cut.
@@ -174,13 +188,17 @@ fn rejects_options_of_other_formats(rt: HostRuntime) {
 }
 
 /// Texts that are no values.
-static UNREADABLE: [(&str, &str); 20] = [
+static UNREADABLE: [(&str, &str); 24] = [
     ("scale", "two"),
     ("quiet", "-1"),
     ("module_mm", ".5"),
     ("module_mm", "0,5"),
-    ("module_mm", "0.333"),
+    ("module_mm", "0.3333"),
+    ("module_mm", "0."),
+    ("module_mm", "1.2e"),
     ("dpi", "300dpi"),
+    ("dpi", "203.20"),
+    ("dpi", "203."),
     ("inverted", "yes"),
     ("at", "1"),
     ("at", "1, 2"),
@@ -198,14 +216,15 @@ static UNREADABLE: [(&str, &str); 20] = [
 ];
 
 /// Values that are out of bounds.
-static OUTSIDE: [(&str, &str); 14] = [
+static OUTSIDE: [(&str, &str); 15] = [
     ("scale", "0"),
     ("scale", "65"),
     ("quiet", "17"),
-    ("module_mm", "0.04"),
-    ("module_mm", "10.01"),
-    ("dpi", "49"),
-    ("dpi", "2401"),
+    ("module_mm", "0.049"),
+    ("module_mm", "10.001"),
+    ("module_mm", "10001"),
+    ("dpi", "49.9"),
+    ("dpi", "2400.1"),
     ("title", "a\u{1}"),
     ("at", "18001,0"),
     ("copies", "0"),
@@ -288,16 +307,30 @@ fn reads_configurations(rt: HostRuntime) {
     assert!(rt; Format::Zpl.has(Setting::At) && !Format::Svg.has(Setting::At));
 }
 
-/// The words of values.
-static SIZES: [(&str, Option<usize>); 8] = [
-    ("0.5", Some(50)),
-    ("0.05", Some(5)),
-    ("10", Some(1_000)),
-    ("1000.99", Some(100_099)),
-    ("1001", None),
+/// Words of sizes, and their thousandths.
+static SIZES: [(&str, Option<usize>); 11] = [
+    ("0.5", Some(500)),
+    ("0.05", Some(50)),
+    ("0.396", Some(396)),
+    ("10", Some(10_000)),
+    ("10000.999", Some(10_000_999)),
+    ("10001", None),
     ("1.", None),
     ("1.2.3", None),
     ("1.x", None),
+    ("1.2345", None),
+    ("1.23x", None),
+];
+
+/// Words of resolutions, and their tenths.
+static RESOLUTIONS: [(&str, Option<usize>); 7] = [
+    ("203.2", Some(2032)),
+    ("300", Some(3000)),
+    ("10000.9", Some(100_009)),
+    ("10001", None),
+    ("300.", None),
+    ("300.x", None),
+    ("203.20", None),
 ];
 
 #[test]
@@ -306,7 +339,10 @@ fn reads_option_words(rt: HostRuntime) {
     assert!(rt; number_of_word("").is_none() && number_of_word("1 ").is_none());
     assert!(rt; position_of_word("0,18000") == Some((0, 18_000)));
     assert!(rt; flag_of_word("true") == Some(true) && flag_of_word("false") == Some(false));
-    for (word, hundredths) in SIZES.iter() {
-        assert!(rt; hundredths_of_word(word) == *hundredths, "{word}");
+    for (word, thousandths) in SIZES.iter() {
+        assert!(rt; thousandths_of_word(word) == *thousandths, "{word}");
+    }
+    for (word, tenths) in RESOLUTIONS.iter() {
+        assert!(rt; tenths_of_word(word) == *tenths, "{word}");
     }
 }

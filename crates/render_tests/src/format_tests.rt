@@ -145,7 +145,7 @@ const TITLED: &str =
 </svg>
 "##;
 
-/// The same in points: a module of 0.33 mm has 33 * 18 / 635 points, and the sides have 27.2 and
+/// The same in points: a module of 0.33 mm has 330 * 18 / 6350 points, and the sides have 27.2 and
 /// 26.2 points: 27.12756 and 26.19213, which are rounded up.
 const POSTSCRIPT: &str = "%!PS-Adobe-3.0 EPSF-3.0
 %%BoundingBox: 0 0 28 27
@@ -153,7 +153,7 @@ const POSTSCRIPT: &str = "%!PS-Adobe-3.0 EPSF-3.0
 %%LanguageLevel: 2
 %%EndComments
 /r{moveto dup 0 rlineto 0 1 rlineto neg 0 rlineto closepath}bind def
-33 18 mul 635 div dup scale 0 28 translate 1 -1 scale
+330 18 mul 6350 div dup scale 0 28 translate 1 -1 scale
 1 setgray 0 0 29 28 rectfill 0 setgray
 1 13 13 r
 1 15 13 r
@@ -171,9 +171,9 @@ fn draws_sizes(rt: HostRuntime) {
     let view = ModuleView::new_rect(&CELLS, 3, 2).expect(&rt, "a view");
     let picture = Picture::of_grid(&view, options).expect(&rt, "a picture");
     let title = "<5 & \"6\"> 'é'\r";
-    let text = svg_document(alloc, &picture, Some(33), Some(title)).expect(&rt, "a result");
+    let text = svg_document(alloc, &picture, Some(330), Some(title)).expect(&rt, "a result");
     assert_eq!(rt; text.as_str(), TITLED);
-    let text = eps(alloc, &picture, Some(33)).expect(&rt, "a result");
+    let text = eps(alloc, &picture, Some(330)).expect(&rt, "a result");
     assert_eq!(rt; text.as_str(), POSTSCRIPT);
 }
 
@@ -219,13 +219,13 @@ fn tests_settings(rt: HostRuntime) {
     assert_eq!(rt; (options.scale, options.quiet, options.at), (8, 4, (0, 0)));
 
     let dpi = Settings {
-        dpi: Some(2400),
+        dpi_tenths: Some(24_000),
         ..none
     };
     assert!(rt; DrawOptions::new(alloc, Format::Png, &dpi).is_ok());
     assert!(rt; rejects(alloc, Format::Svg, &dpi, Setting::Dpi));
     let both = Settings {
-        module_mm: Some(33),
+        module_um: Some(330),
         ..dpi
     };
     assert!(rt; rejects(alloc, Format::Png, &both, Setting::Dpi));
@@ -236,7 +236,7 @@ fn tests_sizes_and_titles(rt: HostRuntime) {
     let alloc = rt.alloc();
     let none = Settings::default();
     let thin = Settings {
-        module_mm: Some(4),
+        module_um: Some(49),
         ..none
     };
     assert!(rt; rejects(alloc, Format::Eps, &thin, Setting::ModuleMm));
@@ -262,8 +262,8 @@ fn tests_sizes_and_titles(rt: HostRuntime) {
 const WRONG: Settings = Settings {
     scale: Some(0),
     quiet: Some(17),
-    module_mm: Some(4),
-    dpi: Some(49),
+    module_um: Some(49),
+    dpi_tenths: Some(499),
     inverted: true,
     title: Some("a"),
     caption: Some("a"),
@@ -288,12 +288,12 @@ fn names_the_first_setting(rt: HostRuntime) {
     assert!(rt; rejects(alloc, Format::Pbm, &many, Setting::Quiet));
     let many = Settings {
         quiet: None,
-        module_mm: None,
+        module_um: None,
         ..many
     };
     assert!(rt; rejects(alloc, Format::Pbm, &many, Setting::Dpi));
     let many = Settings {
-        dpi: None,
+        dpi_tenths: None,
         inverted: false,
         ..many
     };
@@ -312,8 +312,8 @@ fn names_the_first_setting_of_labels(rt: HostRuntime) {
     let many = Settings {
         scale: None,
         quiet: None,
-        module_mm: None,
-        dpi: None,
+        module_um: None,
+        dpi_tenths: None,
         inverted: false,
         title: None,
         caption: None,
@@ -381,17 +381,17 @@ fn says_resolutions(rt: HostRuntime) {
     let symbol = Symbol::new(alloc, b"hello", EcLevel::M).expect(&rt, "a symbol");
     let none = Settings::default();
     let dpi = Settings {
-        dpi: Some(300),
+        dpi_tenths: Some(3000),
         ..none
     };
     let bytes = drawn_as(alloc, &symbol, Format::Png, &dpi).expect(&rt, "a result");
     let density = bytes.get(37..).unwrap_or(&[]);
     assert!(rt; density.starts_with(b"pHYs\x00\x00\x2E\x23"));
-    let module_mm = Settings {
-        module_mm: Some(50),
+    let sized = Settings {
+        module_um: Some(500),
         ..none
     };
-    let bytes = drawn_as(alloc, &symbol, Format::Png, &module_mm).expect(&rt, "a result");
+    let bytes = drawn_as(alloc, &symbol, Format::Png, &sized).expect(&rt, "a result");
     let density = bytes.get(37..).unwrap_or(&[]);
     assert!(rt; density.starts_with(b"pHYs\x00\x00\x3E\x80"));
 }

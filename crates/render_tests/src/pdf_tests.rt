@@ -3,7 +3,7 @@
 //! and, at a whole number of pixels a module, exactly the dark modules.
 ghost use Rattle.std.specs.Prelude.{◌≤◌};
 ghost use Rattle.std.specs.Option.{ForSome};
-ghost use Rattle.picture_settings.specs.declared.bounds.TheConstants.{MAX_MODULE_MM};
+ghost use Rattle.picture_settings.specs.declared.bounds.TheConstants.{MAX_MODULE_UM};
 
 use crate::format_tests::rejects;
 use crate::renderer_tests::{CELLS, draws};
@@ -142,10 +142,10 @@ fn add(
     alloc: Global,
     bytes: &mut Vec<u8>,
     pages: &mut PdfPages,
-    module_mm: Option<usize>,
+    module_um: Option<usize>,
     colors: Colors,
 ) -> Result<(), PluginError>
-    requires { ForSome module_mm (λ n. n ≤ MAX_MODULE_MM) }
+    requires { ForSome module_um (λ n. n ≤ MAX_MODULE_UM) }
 {
     let Some(view) = ModuleView::new_rect(&CELLS, 3, 2) else {
         return Err(PluginError::InvalidModuleGrid);
@@ -153,7 +153,7 @@ fn add(
     let Some(picture) = Picture::of_grid(&view, RenderOptions::new(alloc, 8, 13)?) else {
         return Err(PluginError::InvalidModuleGrid);
     };
-    match pages.picture(alloc, &picture, module_mm, colors) {
+    match pages.picture(alloc, &picture, module_um, colors) {
         Ok(page) => Ok(bytes.extend_from_slice(&page)?),
         Err(_) => Err(PluginError::OutOfMemory),
     }
@@ -169,7 +169,7 @@ fn draws_pages(rt: HostRuntime) {
     };
     let (mut pages, mut bytes) = PdfPages::start(alloc, None).expect(&rt, "a result");
     add(alloc, &mut bytes, &mut pages, None, NO_COLORS).expect(&rt, "a result");
-    add(alloc, &mut bytes, &mut pages, Some(50), clear).expect(&rt, "a result");
+    add(alloc, &mut bytes, &mut pages, Some(500), clear).expect(&rt, "a result");
     bytes
         .extend_from_slice(&pages.end(alloc).expect(&rt, "a result"))
         .expect(&rt, "a result");

@@ -66,7 +66,7 @@ fn draws_titles_of_png(rt: HostRuntime) {
     let title = file.get(33..).unwrap_or(&[]);
     assert!(rt; title.starts_with(b"\0\0\0\x0CtEXtTitle\0Gate 5"));
     let settings = Settings {
-        dpi: Some(300),
+        dpi_tenths: Some(3000),
         ..titled("Tür 5")
     };
     let options = DrawOptions::new(alloc, Format::Png, &settings).expect(&rt, "options");

@@ -221,7 +221,7 @@ details_stop_message label bytes stop (inr h) = inr (record { short = h.short; c
 abbrev pub IsLinkOrContentStop : Label → List ℕ → Stop → Type 0
 IsLinkOrContentStop label text stop =
     IsLinkStop label.domain.now text stop
-    ⊎ ((link : List ℕ) × IsLink label.domain.now text link × (link ≢ []) × IsContentStop label link stop)
+    ⊎ ((link : List ℕ) × IsLink label.upper label.domain.now text link × (link ≢ []) × IsContentStop label link stop)
 
 pub said_stop : (label : Label) (text : List ℕ) (stop : Stop) → is_link label.content ≡ true → IsLinkOrContentStop label text stop →
     ((is_link label.content ≡ true) × IsLinkStop label.domain.now text stop)

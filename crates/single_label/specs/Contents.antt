@@ -6,9 +6,9 @@ use Rattle.std.specs.Io.BufRead.{ends_with_byte, strip_last}
 use Rattle.std.specs.Str.{IsUtf8, IsValidUpTo}
 use Rattle.byte_symbols.specs.ByteHeadline.{IsAsAskedWithoutKanji, IsRefusedWithoutKanji}
 use Rattle.gs1.specs.Checked.{AreAllowedElements, IsRefusedStringByTable}
-use Rattle.gs1.specs.Elements.{written_elements, text_fault, IsRefusedText}
+use Rattle.gs1.specs.Elements.{Element, written_elements, text_fault, IsRefusedText}
 use Rattle.gs1_links.specs.LinkReader.{ReadsLink}
-use Rattle.gs1_links.specs.Links.{link_of, link_error, IsRefusedLink, linked}
+use Rattle.gs1_links.specs.Links.{link_of, capital_link_of, link_error, IsRefusedLink, linked}
 use Rattle.gs1.specs.Read.{WritesFirst, scanned}
 use Rattle.gs1.specs.Reader.{FindsOnly}
 use Rattle.gs1.specs.Strings.{AreFaultless, IsRefusedString}
@@ -224,10 +224,15 @@ IsCheckedStop options bytes stop =
     IsGs1Stop true options bytes stop
     ⊎ (IsApart bytes stop × ((grid : List Color) × IsGs1Symbol true options bytes grid))
 
+-- The link of elements, with its scheme and its host in capitals or as they are given.
+abbrev pub written_link : (upper : Bool) → (domain : List ℕ) → List Element → List ℕ
+written_link upper domain elements =
+    if upper then capital_link_of domain elements else link_of domain elements
+
 -- The link of the elements that a text writes, in which a reader of links finds exactly these.
-pub record IsLink (domain text link : List ℕ) : Type 0 where
+pub record IsLink (upper : Bool) (domain text link : List ℕ) : Type 0 where
   pub utf8 : IsUtf8 text
-  pub link_is : link ≡ link_of domain (written_elements text)
+  pub link_is : link ≡ written_link upper domain (written_elements text)
   pub read : ReadsLink link (linked (written_elements text))
   pub faultless : link_error text domain ≡ None
 

@@ -21,7 +21,7 @@ use Rattle.qrcode_core.specs.declared.types.Version.{Version}
 use Rattle.qrcode_core.specs.declared.types.Version.TheVariants.{Normal, Micro as MicroVersion}
 use Rattle.qrcode_grid.specs.Masks.{normal_number, micro_number}
 use Rattle.qrcode_grid.specs.declared.canvas.MaskPattern.{MaskPattern}
-use Rattle.picture_settings.specs.declared.bounds.TheConstants.{MAX_DPI}
+use Rattle.picture_settings.specs.declared.bounds.TheConstants.{MAX_DPI_TENTHS}
 use Rattle.picture_settings.specs.declared.draw_options.DrawOptions.{DrawOptions}
 use Rattle.single_label.specs.Contents.{HasText, is_bracketed, AreWritten, AreNotWritten}
 use Rattle.label_words.specs.declared.command.Content.{Content}
@@ -107,33 +107,40 @@ part_piece (segment mode bytes) = mode_piece mode ++ decimal (count_of mode (len
 abbrev pub parts_piece : List Part → List ℕ
 parts_piece parts = codes ", segments" ++ flat_map part_piece parts
 
--- The width of a symbol without its quiet zone, in hundredths of a millimetre, if it is known: by
--- the size of a module, or by its dots and the dots of an inch, which is 25.4 mm. It is the nearest
--- whole number.
+-- The width of modules in micrometres, if it is known: by that of a module, or by its dots and the
+-- dots of ten inches, of which each is 25.4 mm. It is the nearest whole number.
 abbrev pub nearest_to : ℕ → ℕ → ℕ
 nearest_to dividend divisor = (2 * dividend + divisor) / (2 * divisor)
 
 abbrev pub width_of_dots : ℕ → ℕ → Option ℕ → Option ℕ
 width_of_dots modules scale None = None
-width_of_dots modules scale (Some dpi) =
-    if nat_le 1 dpi && nat_le dpi MAX_DPI then Some (nearest_to (modules * scale * 2540) dpi) else None
+width_of_dots modules scale (Some dpi_tenths) =
+    if nat_le 1 dpi_tenths && nat_le dpi_tenths MAX_DPI_TENTHS
+    then Some (nearest_to (modules * scale * 254000) dpi_tenths) else None
 
 abbrev pub physical_width : ℕ → Label → DrawOptions → Option ℕ
 physical_width modules label options =
-    elim options.module_mm [ Some wide ↦ Some (modules * wide) | None ↦ width_of_dots modules options.scale label.dpi ]
+    elim options.module_um [
+      | Some wide ↦ Some (modules * wide)
+      | None ↦ width_of_dots modules options.scale label.dpi_tenths
+    ]
 
--- Hundredths of a millimetre.
+-- Micrometres, as millimetres.
 abbrev pub millimetres_text : ℕ → List ℕ
-millimetres_text n = decimal (n / 100) ++ (codes "." ++ (decimal (n / 10 % 10) ++ decimal (n % 10)))
+millimetres_text n =
+    decimal (n / 1000) ++ (codes "." ++ (decimal (n / 100 % 10) ++ (decimal (n / 10 % 10)
+    ++ (decimal (n % 10) ++ codes " mm"))))
 
-abbrev pub width_piece : Option ℕ → List ℕ
-width_piece None = []
-width_piece (Some n) = codes ", " ++ (millimetres_text n ++ codes " mm")
+-- A width after other words, if it is known.
+abbrev pub width_piece : List ℕ → Option ℕ → List ℕ
+width_piece words None = []
+width_piece words (Some n) = words ++ millimetres_text n
 
 abbrev pub size_text : Label → DrawOptions → DrawnSymbol → List ℕ
 size_text label options symbol =
     codes ", " ++ (decimal (drawn_grid symbol).columns ++ (codes " modules"
-    ++ (width_piece (physical_width (drawn_grid symbol).columns label options) ++ 10 ∷ [])))
+    ++ (width_piece (codes " of ") (physical_width 1 label options)
+    ++ (width_piece (codes ", ") (physical_width (drawn_grid symbol).columns label options) ++ 10 ∷ []))))
 
 -- The parts of a text in a version, which take the fewest bits there. Only where all take 32768
 -- bits or more, as in no version of its symbol, there is nothing.
@@ -213,7 +220,7 @@ IsDetailsStop label None stop = stop ≡ Fault (Symbol OutOfMemory)
 IsDetailsStop label (Some content) stop = IsDetailsStopOf label.content content stop
 
 -- The details of a symbol: its segments, too, and what the other way is, where it has all of a
--- content. Example: 21 modules of 0.5 mm are 10.50 mm wide.
+-- content. Example: 21 modules of 0.5 mm are 10.500 mm wide.
 pub record AreDetails (label : Label) (options : DrawOptions) (content : Option (List ℕ)) (symbol : DrawnSymbol)
     (text : List ℕ) : Type 0 where
   pub segments : List ℕ

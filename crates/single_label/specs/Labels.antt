@@ -32,8 +32,8 @@ pub record AreSameButText (options others : DrawOptions) : Type 0 where
   pub format : others.format ≡ options.format
   pub scale : others.scale ≡ options.scale
   pub quiet : others.quiet ≡ options.quiet
-  pub module_mm : others.module_mm ≡ options.module_mm
-  pub dpi : others.dpi ≡ options.dpi
+  pub module_um : others.module_um ≡ options.module_um
+  pub dpi_tenths : others.dpi_tenths ≡ options.dpi_tenths
   pub inverted : others.inverted ≡ options.inverted
   pub title : others.title ≡ options.title
   pub at : others.at ≡ options.at
@@ -86,7 +86,7 @@ pub record ShowsContent (label : Label) (options : DrawOptions) (text content dr
 abbrev pub IsSaid : Label → List ℕ → List ℕ → Type 0
 IsSaid label text content =
     ((is_link label.content ≡ false) × (content ≡ text))
-    ⊎ ((is_link label.content ≡ true) × IsLink label.domain.now text content)
+    ⊎ ((is_link label.content ≡ true) × IsLink label.upper label.domain.now text content)
 
 -- The drawing shows the symbol of the bytes, or of what of them is content, or of the link of the
 -- elements that this writes.

@@ -40,7 +40,7 @@ abbrev pub IsLinkOutcome : Label → List ℕ → Outcome → Type 0
 IsLinkOutcome label bytes outcome =
     (text : List ℕ) × IsTextOfBytes bytes text
     × (((outcome ≡ Nothing) × HasNoLink label.domain.now text)
-    ⊎ ((link : List ℕ) × IsLink label.domain.now text link
+    ⊎ ((link : List ℕ) × IsLink false label.domain.now text link
     × IsOtherOutcome Link label.symbol link outcome))
 
 -- ---- A link as elements

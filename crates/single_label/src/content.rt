@@ -18,7 +18,7 @@ use crate::element::{read_stop, written_stop};
 use crate::stop::Stop;
 use byte_symbols::bytes_without_kanji;
 use gs1::{check_element_string, check_element_values, checked_element_string, element_string};
-use gs1_links::digital_link;
+use gs1_links::{capital_link, digital_link};
 use label_words::Content;
 use qrcode_base::symbols::LONGEST_DATA;
 use qrcode_core::options::SymbolOptions;
@@ -286,14 +286,20 @@ fn bracketed_symbol(
     Ok(Symbol::elements_with(alloc, &elements, options)?)
 }
 
-/// Returns the link of bracketed elements. It fails as `utf8_of` does, and then as `digital_link`.
-pub fn link_of(alloc: Global, domain: &str, bytes: &[u8]) -> Result<Vec<u8>, Stop>
-    ensures link { IfOk result (λ link. IsLink domain.now bytes.now link.items) }
+/// Returns the link of bracketed elements, with its scheme and its host in capitals if `upper` says
+/// so. It fails as `utf8_of` does, and then as `digital_link`.
+pub fn link_of(alloc: Global, upper: bool, domain: &str, bytes: &[u8]) -> Result<Vec<u8>, Stop>
+    ensures link { IfOk result (λ link. IsLink upper domain.now bytes.now link.items) }
     ensures some { IfOk result (λ link. link.items ≢ []) }
     ensures refusal { IfErr result (IsLinkStop domain.now bytes.now) }
 {
     let text = utf8_of(bytes)?;
-    match digital_link(alloc, text, domain) {
+    let link = if upper {
+        capital_link(alloc, text, domain)
+    } else {
+        digital_link(alloc, text, domain)
+    };
+    match link {
         Ok(link) => Ok(link),
         Err(error) => Err(Stop::NoLink(error)),
     }

@@ -1,5 +1,5 @@
 //! The details of a symbol: its version, level and mask, the modes of its segments, and its size.
-ghost use Rattle.std.specs.Prelude.{◌≡◌, ◌↔◌, true, false, IsTrue, ℕ, ◌++◌, ◌<◌, ◌≤◌, ◌^◌};
+ghost use Rattle.std.specs.Prelude.{◌≡◌, ◌↔◌, true, false, IsTrue, ℕ, ◌++◌, ◌<◌};
 ghost use Rattle.std.specs.Prelude.{List, decimal, OnOk, IfOk, IfErr, Some};
 ghost use Rattle.std.specs.Option.{option_copied};
 ghost use Rattle.std.specs.String.{string_bytes};
@@ -10,9 +10,8 @@ ghost use Rattle.qrcode_bits.specs.Plans.{IsChosenPlan};
 ghost use Rattle.qrcode_bits.specs.declared.optimize.Segment.{Segment};
 ghost use Rattle.single_label.specs.Details.{IsPlanIn, AreDataAs, mode_piece, count_of};
 ghost use Rattle.single_label.specs.Details.{segment_text, version_piece, mask_number, head_text};
-ghost use Rattle.single_label.specs.Details.{segments_text, nearest_to, width_of_dots};
-ghost use Rattle.single_label.specs.Details.{physical_width, millimetres_text, width_piece};
-ghost use Rattle.single_label.specs.Details.{size_text, AreDetails, IsDetailsStop, IsDetailsStopOf};
+ghost use Rattle.single_label.specs.Details.{segments_text, AreDetails, IsDetailsStop};
+ghost use Rattle.single_label.specs.Details.{IsDetailsStopOf};
 ghost use Rattle.single_label.specs.Details.{IsKnownPlanText, IsSegmentsPlan};
 ghost use Rattle.single_label.specs.Details.{IsSegmentsText};
 ghost use Rattle.label_words.specs.Choices.{gs1_content};
@@ -23,16 +22,16 @@ use crate::content::{is_bracketed, text_of, written_string};
 use crate::other_way::push_other_way;
 use crate::stop::Stop;
 use crate::text_details::push_text;
+use crate::widths::push_size;
 use itoa::Buffer;
 use label_words::{Content, Label};
 use qrcode_bits::bits::Content as Front;
 use qrcode_bits::optimize::{Parser, Segment};
 use qrcode_core::symbol::Symbol;
-use qrcode_core::traits::{ModuleSource, QrSymbol};
+use qrcode_core::traits::QrSymbol;
 use qrcode_core::types::{EcLevel, Mode, QrError, QrResult, Version};
 use qrcode_grid::canvas::MaskPattern;
 use qrcode_render::DrawOptions;
-use qrcode_render::bounds::MAX_DPI;
 use std::alloc::{AllocError, Global};
 
 /// Returns the details of a symbol. Its segments are those of the content, if it is given: the
@@ -319,79 +318,4 @@ fn push_written(
 {
     let elements = written_string(alloc, checks, bytes)?;
     Ok(push_data(alloc, text, Front::Elements, &elements, version)?)
-}
-
-/// Returns the whole number that is nearest to a quotient.
-fn nearest_to(dividend: usize, divisor: usize) -> usize
-    requires some { 0 < divisor }
-    requires small { dividend < 2 ^ 32 }
-    requires few { divisor < 2 ^ 32 }
-    ensures { result ≡ nearest_to dividend divisor }
-{
-    (2 * dividend + divisor) / (2 * divisor)
-}
-
-/// Returns the width of modules of `scale` dots, in hundredths of a millimetre, if the dots of an
-/// inch are known.
-fn width_of_dots(modules: usize, scale: usize, dpi: Option<usize>) -> Option<usize>
-    requires modules { modules ≤ 177 }
-    requires scale { scale ≤ 64 }
-    ensures { result ≡ width_of_dots modules scale dpi }
-{
-    match dpi {
-        None | Some(0) => None,
-        Some(dpi) if dpi > MAX_DPI => None,
-        Some(dpi) => Some(nearest_to(modules * scale * 2540, dpi)),
-    }
-}
-
-/// Returns the width of a symbol in hundredths of a millimetre, if it is known.
-fn physical_width(modules: usize, label: &Label, options: &DrawOptions) -> Option<usize>
-    requires { modules ≤ 177 }
-    ensures { result ≡ physical_width modules label.now options.now }
-{
-    match options.module_mm {
-        Some(module) => Some(modules * module),
-        None => width_of_dots(modules, options.scale, label.dpi),
-    }
-}
-
-/// Appends hundredths of a millimetre as millimetres.
-fn push_millimetres(text: &mut String, n: usize) -> Result<(), AllocError>
-    ensures { OnOk result (string_bytes text.new ≡ string_bytes text.old ++ millimetres_text n) }
-{
-    push_number(text, n / 100)?;
-    text.push_str(".")?;
-    push_number(text, n / 10 % 10)?;
-    push_number(text, n % 10)
-}
-
-/// Appends a width, if it is known.
-fn push_width(text: &mut String, width: Option<usize>) -> Result<(), AllocError>
-    ensures { OnOk result (string_bytes text.new ≡ string_bytes text.old ++ width_piece width) }
-{
-    let Some(width) = width else {
-        return Ok(());
-    };
-    text.push_str(", ")?;
-    push_millimetres(text, width)?;
-    text.push_str(" mm")
-}
-
-/// Appends the number of modules, the width if it is known, and a newline.
-fn push_size(
-    text: &mut String,
-    label: &Label,
-    options: &DrawOptions,
-    symbol: &Symbol,
-) -> Result<(), AllocError>
-    ensures { OnOk result (string_bytes text.new
-        ≡ string_bytes text.old ++ size_text label.now options.now symbol.now) }
-{
-    let modules = symbol.width();
-    text.push_str(", ")?;
-    push_number(text, modules)?;
-    text.push_str(" modules")?;
-    push_width(text, physical_width(modules, label, options))?;
-    text.push_str("\n")
 }

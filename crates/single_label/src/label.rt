@@ -68,14 +68,15 @@ fn link_label<S: Shown>(
     requires allowed { S.allowed label.now options.now }
     requires link { is_link label.now.content ≡ true }
     ensures shown { IfOk result (λ shown. (link : List ℕ)
-        × IsLink label.now.domain.now elements.now link × (link ≢ [])
+        × IsLink label.now.upper label.now.domain.now elements.now link × (link ≢ [])
         × ShowsContent label.now options.now elements.now link
         (S.drawing label.now options.now shown)) }
     ensures refusal { IfErr result (λ stop. IsLinkStop label.now.domain.now elements.now stop
-        ⊎ ((link : List ℕ) × IsLink label.now.domain.now elements.now link × (link ≢ [])
+        ⊎ ((link : List ℕ)
+        × IsLink label.now.upper label.now.domain.now elements.now link × (link ≢ [])
         × IsContentStop label.now link stop)) }
 {
-    let link = link_of(alloc, label.domain, elements)?;
+    let link = link_of(alloc, label.upper, label.domain, elements)?;
     content_label(alloc, label, options, elements, &link)
 }
 

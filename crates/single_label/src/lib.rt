@@ -27,6 +27,7 @@ mod shown;
 mod stop;
 mod text_details;
 mod turned;
+mod widths;
 
 pub use element::element_number;
 pub use label::{details_bytes, label_bytes};
@@ -34,3 +35,4 @@ pub use parts::{LONGEST_MESSAGE, details_message, message_labels, message_text};
 pub use shown::{PageSymbol, Said, Shown, are_pages};
 pub use stop::{ElementStop, Stop, TextLength, TooLong};
 pub use turned::page_turned;
+pub use widths::physical_width;

@@ -16,7 +16,8 @@ returns-clause-read c =
     let none : link_error c.args.text.now c.args.domain.now ≡ None =
     rw (← c.as_bytes-text.ensures.value, ← c.as_bytes-domain.ensures.value) (sym c.in_ok-check_link.ensures) in
     capital_link_read c.args.text.now c.args.domain.now c.in_ok-link.link.items none
-    (rw (← c.as_bytes-text.ensures.value, ← c.as_bytes-domain.ensures.value) c.in_ok-link.ensures)
+    (rw (← c.as_bytes-text.ensures.value, ← c.as_bytes-domain.ensures.value)
+    (rw (c.deref.ensures.value, c.in_ok-capitals.ensures) at c.in_ok-link.ensures))
 
 pub returns-clause-none_lost : goal.returns-clause-none_lost
 returns-clause-none_lost c =

@@ -12,7 +12,7 @@ use Rattle.qrcode_render.proofs.eps.eps_captioned.Goals as goal
 pub returns : goal.returns
 returns c =
     let p = shown c.args.picture.now in
-    let mm = c.args.module_mm in
+    let mm = c.args.module_um in
     let caption = option_copied c.args.texts.caption in
     let rows = high caption (rows_of p) in
     let head = eps_comments mm p.scale (columns_of p) rows in

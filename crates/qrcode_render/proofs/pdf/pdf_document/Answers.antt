@@ -10,7 +10,7 @@ use Rattle.qrcode_render.proofs.pdf.pdf_document.Goals as goal
 pub returns : goal.returns
 returns c =
     let title = option_copied c.args.title in
-    let page = pdf_page c.args.module_mm c.args.colors (shown c.args.picture.now) in
+    let page = pdf_page c.args.module_um c.args.colors (shown c.args.picture.now) in
     let start = c.len-start.result in
     let size = c.len-size.result in
     let text : c.push_page.new.bytes.items ≡ pdf_start title ++ page_text 4 page =

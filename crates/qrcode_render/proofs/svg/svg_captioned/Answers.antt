@@ -12,7 +12,7 @@ use Rattle.qrcode_render.proofs.svg.svg_captioned.Goals as goal
 pub returns : goal.returns
 returns c =
     let p = shown c.args.picture.now in
-    let mm = c.args.module_mm in
+    let mm = c.args.module_um in
     let caption = option_copied c.args.texts.caption in
     let rows = high caption (rows_of p) in
     let tag = svg_tag (svg_side mm (columns_of p) (pixel_width p)) (svg_side mm rows (high_pixels caption p)) (columns_of p) rows in

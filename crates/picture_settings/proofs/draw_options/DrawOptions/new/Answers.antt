@@ -21,12 +21,12 @@ pub returns-in_err-require_printable-clause-refusal : goal.returns-in_err-requir
 returns-in_err-require_printable-clause-refusal c =
     let format = c.args.format in
     let s = c.args.settings.now in
-    let dots : c.if-has_dots.lone_dpi ≡ (has_dots format && is_none s.module_mm) = grind (arith, common_steps) in
+    let dots : c.if-has_dots.lone_dpi ≡ (has_dots format && is_none s.module_um) = grind (arith, common_steps) in
     let inverted : (not s.inverted || can_be_inverted format) ≡ true = grind (arith, common_steps) in
-    let millimetres : allows (has_millimetres format) 5 1000 s.module_mm ≡ true =
-    sym (c.allows-sized.ensures ∙ ap (λ (b : Bool). allows b 5 1000 s.module_mm) c.has_millimetres-millimetres.ensures) ∙ c.in_ok-require-3.ensures.valid in
-    let dpi : allows (has_dots format && is_none s.module_mm) 50 2400 s.dpi ≡ true =
-    sym (c.allows-3.ensures ∙ ap (λ (b : Bool). allows b 50 2400 s.dpi) dots) ∙ c.in_ok-require-4.ensures.valid in
+    let millimetres : allows (has_millimetres format) 50 10000 s.module_um ≡ true =
+    sym (c.allows-sized.ensures ∙ ap (λ (b : Bool). allows b 50 10000 s.module_um) c.has_millimetres-millimetres.ensures) ∙ c.in_ok-require-3.ensures.valid in
+    let dpi : allows (has_dots format && is_none s.module_um) 500 24000 s.dpi_tenths ≡ true =
+    sym (c.allows-dotted.ensures ∙ ap (λ (b : Bool). allows b 500 24000 s.dpi_tenths) dots) ∙ c.in_ok-require-4.ensures.valid in
     let place : allows_position (has_position format) s.at ≡ true =
     sym (c.allows_position.ensures ∙ ap (λ (b : Bool). allows_position b s.at) c.has_position.ensures) ∙ c.in_ok-require-8.ensures.valid in
     let left : first_failed (setting_tests format s) ≡ first_failed (printer_tests format s) =
@@ -39,12 +39,12 @@ pub returns-in_err-require_colored-clause-refusal : goal.returns-in_err-require_
 returns-in_err-require_colored-clause-refusal c =
     let format = c.args.format in
     let s = c.args.settings.now in
-    let dots : c.if-has_dots.lone_dpi ≡ (has_dots format && is_none s.module_mm) = grind (arith, common_steps) in
+    let dots : c.if-has_dots.lone_dpi ≡ (has_dots format && is_none s.module_um) = grind (arith, common_steps) in
     let inverted : (not s.inverted || can_be_inverted format) ≡ true = grind (arith, common_steps) in
-    let millimetres : allows (has_millimetres format) 5 1000 s.module_mm ≡ true =
-    sym (c.allows-sized.ensures ∙ ap (λ (b : Bool). allows b 5 1000 s.module_mm) c.has_millimetres-millimetres.ensures) ∙ c.in_ok-require-3.ensures.valid in
-    let dpi : allows (has_dots format && is_none s.module_mm) 50 2400 s.dpi ≡ true =
-    sym (c.allows-3.ensures ∙ ap (λ (b : Bool). allows b 50 2400 s.dpi) dots) ∙ c.in_ok-require-4.ensures.valid in
+    let millimetres : allows (has_millimetres format) 50 10000 s.module_um ≡ true =
+    sym (c.allows-sized.ensures ∙ ap (λ (b : Bool). allows b 50 10000 s.module_um) c.has_millimetres-millimetres.ensures) ∙ c.in_ok-require-3.ensures.valid in
+    let dpi : allows (has_dots format && is_none s.module_um) 500 24000 s.dpi_tenths ≡ true =
+    sym (c.allows-dotted.ensures ∙ ap (λ (b : Bool). allows b 500 24000 s.dpi_tenths) dots) ∙ c.in_ok-require-4.ensures.valid in
     let place : allows_position (has_position format) s.at ≡ true =
     sym (c.allows_position.ensures ∙ ap (λ (b : Bool). allows_position b s.at) c.has_position.ensures) ∙ c.in_ok-require-8.ensures.valid in
     let left : first_failed (setting_tests format s) ≡ first_failed (printer_tests format s) =
@@ -57,12 +57,12 @@ pub returns-clause-valid : goal.returns-clause-valid
 returns-clause-valid c =
     let format = c.args.format in
     let s = c.args.settings.now in
-    let dots : c.if-has_dots.lone_dpi ≡ (has_dots format && is_none s.module_mm) = grind (arith, common_steps) in
+    let dots : c.if-has_dots.lone_dpi ≡ (has_dots format && is_none s.module_um) = grind (arith, common_steps) in
     let inverted : (not s.inverted || can_be_inverted format) ≡ true = grind (arith, common_steps) in
-    let millimetres : allows (has_millimetres format) 5 1000 s.module_mm ≡ true =
-    sym (c.allows-sized.ensures ∙ ap (λ (b : Bool). allows b 5 1000 s.module_mm) c.has_millimetres-millimetres.ensures) ∙ c.in_ok-require-3.ensures.valid in
-    let dpi : allows (has_dots format && is_none s.module_mm) 50 2400 s.dpi ≡ true =
-    sym (c.allows-3.ensures ∙ ap (λ (b : Bool). allows b 50 2400 s.dpi) dots) ∙ c.in_ok-require-4.ensures.valid in
+    let millimetres : allows (has_millimetres format) 50 10000 s.module_um ≡ true =
+    sym (c.allows-sized.ensures ∙ ap (λ (b : Bool). allows b 50 10000 s.module_um) c.has_millimetres-millimetres.ensures) ∙ c.in_ok-require-3.ensures.valid in
+    let dpi : allows (has_dots format && is_none s.module_um) 500 24000 s.dpi_tenths ≡ true =
+    sym (c.allows-dotted.ensures ∙ ap (λ (b : Bool). allows b 500 24000 s.dpi_tenths) dots) ∙ c.in_ok-require-4.ensures.valid in
     let place : allows_position (has_position format) s.at ≡ true =
     sym (c.allows_position.ensures ∙ ap (λ (b : Bool). allows_position b s.at) c.has_position.ensures) ∙ c.in_ok-require-8.ensures.valid in
     let left : first_failed (setting_tests format s) ≡ first_failed (printer_tests format s) =
