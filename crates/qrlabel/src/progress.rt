@@ -1,5 +1,6 @@
 //! The number of labels, written while they are drawn.
-ghost use Rattle.std.specs.Prelude.{◌≡◌, ◌==◌};
+ghost use Rattle.std.specs.Prelude.{◌≡◌, ◌==◌, ◌+◌, ◌%◌, ◌^◌, ◌++◌, IsTrue, IsFalse, decimal, codes};
+ghost use Rattle.programs.specs.Devices.{output, Writes};
 
 use itoa::Buffer;
 use labels::Files;
@@ -41,7 +42,13 @@ impl<W, E: Sink> Counting<W, E> {
     /// Counts one label more, and writes each hundredth number. The next one, or an error, is
     /// written over it.
     fn count_one(&mut self)
-        ensures { self.new.labels ≡ self.old.labels }
+        ensures labels { self.new.labels ≡ self.old.labels }
+        ensures counted { self.new.count ≡ (self.old.count + 1) % 2 ^ 64 }
+        ensures hidden { IsFalse self.old.is_shown → self.new.numbers ≡ self.old.numbers }
+        ensures shown { IsTrue self.old.is_shown → self.new.count % 100 ≡ 0 →
+            IsFalse (E.state self.old.numbers).failed →
+            Writes (output (E.state self.old.numbers) (E.state self.new.numbers))
+            (decimal self.new.count ++ codes " labels\r") }
     {
         self.count = self.count.wrapping_add(1);
         if !self.is_shown || self.count % STEP != 0 || self.numbers.failed() {
