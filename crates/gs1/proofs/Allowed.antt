@@ -13,6 +13,7 @@ use Rattle.gs1_base.specs.Characters.{is_within, is_decimal_digit}
 use Rattle.gs1.specs.Elements.{Element, is_identifier}
 use Rattle.gs1.specs.Checks.{fault_if}
 use Rattle.gs1.specs.Table.{components}
+use Rattle.gs1.specs.TableLaws.{is_exact}
 use Rattle.gs1.specs.Values.{is_allowed, wrong_character, piece_fault, value_fault, number_of_identifier}
 use Rattle.gs1.specs.Values.{is_assigned, identifier_error, value_error, element_error, first_error}
 use Rattle.gs1.specs.declared.reason.Fault.{Fault}
@@ -25,7 +26,7 @@ use Rattle.gs1.specs.declared.table.Component.{Component}
 use Rattle.gs1.specs.declared.table.Component.TheVariants.{Needed, Optional}
 use Rattle.gs1.proofs.Faults.{neither, both, known_length, digit_encodable, all_allowed}
 use Rattle.gs1.proofs.Reading.{IsReadable, AllReadable}
-use Rattle.gs1.proofs.Sizes.{is_exact, exact}
+use Rattle.gs1.proofs.Sizes.{exact}
 
 pub not_wrong : (b : Bool) (place : ℕ) (reason : Reason) → fault_if b place reason ≡ None → b ≡ false
 not_wrong true place reason e = absurd (let h : Some (let f : Fault = record { place = place; reason = reason } in f) ≡ None = e in cc)

@@ -15,6 +15,7 @@ pub mod Escapes
 pub mod CouponSteps
 pub mod KeySums
 pub mod Errors
+pub mod RowLemmas
 pub mod Sizes
 pub mod Allowed
 pub mod AllowedStrings

@@ -10,13 +10,14 @@ use Rattle.std.proofs.lemmas.List.Quantifiers.{position-Some}
 use Rattle.gs1.specs.Checks.{fault_if}
 use Rattle.gs1.specs.Pieces.{IsPiece, AreJoined, ValuesAreJoined}
 use Rattle.gs1.specs.Table.{components, characters_of, least_of, greatest_of, check_of, is_optional}
+use Rattle.gs1.specs.TableLaws.{is_cut, are_cut}
 use Rattle.gs1.specs.Values.{is_allowed, wrong_character, check_fault, piece_fault, value_fault}
 use Rattle.gs1.specs.declared.reason.Fault.{Fault}
 use Rattle.gs1.specs.declared.reason.Reason.TheVariants.{TooShort, TooLong}
 use Rattle.gs1.specs.declared.table.Component.{Component}
 use Rattle.gs1.proofs.Faults.{neither, both, all_allowed}
 use Rattle.gs1.proofs.Allowed.{not_wrong, at_least, none_mapped, not_zero}
-use Rattle.gs1.proofs.Lengths.{is_cut, are_cut, all_cut}
+use Rattle.gs1.proofs.Lengths.{all_cut}
 
 -- ---- Numbers and lists
 

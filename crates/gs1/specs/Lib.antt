@@ -4,12 +4,12 @@ pub mod Checks
 pub mod Coupons
 pub mod Keys
 pub mod Table
+pub mod TableLaws
 pub mod Elements
 pub mod Values
 pub mod Pieces
 pub mod Reader
 pub mod Strings
 pub mod Checked
-pub mod Associations
 pub mod Together
 pub mod Read

@@ -10,7 +10,7 @@ use Rattle.std.specs.Option.{option_or, option_map}
 use Rattle.gs1_base.specs.Characters.{is_within}
 use Rattle.gs1.specs.Elements.{Element, written_elements}
 use Rattle.gs1.specs.Values.{number_of_identifier}
-use Rattle.gs1.specs.Associations.{needed, also_needed, barred}
+use Rattle.gs1.specs.Table.{needed, also_needed, barred}
 use Rattle.gs1.specs.declared.together.TogetherError.{TogetherError}
 use Rattle.gs1.specs.declared.together.TogetherError.TheVariants.{TextTooLong, MissingElement}
 use Rattle.gs1.specs.declared.together.TogetherError.TheVariants.{ConflictingElement}

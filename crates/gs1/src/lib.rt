@@ -6,7 +6,7 @@
 //! ```
 //!
 //! `check_element_string` checks element strings that come without brackets. The modules `check`,
-//! `strings`, `together` and `values` have what links (`gs1_links`) are made by.
+//! `strings`, `table`, `together` and `values` have what links (`gs1_links`) are made by.
 #![tactic(auto)]
 
 ghost use Rattle.std.specs.Prelude.{◌≡◌, None, IfOk, OnOk, IfErr};
@@ -14,7 +14,6 @@ ghost use Rattle.gs1.specs.Elements.{written_elements, bracketed, text_fault, Is
 ghost use Rattle.gs1.specs.Reader.{FindsOnly, AreSymbolData};
 ghost use Rattle.qrcode_bits.specs.Contents.{AreElements};
 
-mod associations;
 mod changes;
 pub mod check;
 mod checked;
@@ -29,8 +28,10 @@ pub mod laws;
 mod read;
 mod reason;
 mod refusal;
+mod rows;
+mod shapes;
 pub mod strings;
-mod table;
+pub mod table;
 pub mod together;
 pub mod values;
 mod write;

@@ -1,17 +1,12 @@
-//! The table of GS1 Application Identifiers: the components of their values.
-ghost use Rattle.std.specs.Prelude.{◌≡◌, ◌<◌};
-ghost use Rattle.gs1.specs.Table.{components, components_of_two, components_of_three};
-ghost use Rattle.gs1.specs.Table.{components_of_measure, components_of_transport};
-ghost use Rattle.gs1.specs.Table.{components_of_meat, components_of_person};
-ghost use Rattle.gs1.specs.Table.{components_of_item, components_of_other, is_measure};
+//! The table of GS1 Application Identifiers: what its rows have, and how it is read.
+ghost use Rattle.std.specs.Prelude.{◌≡◌, ◌<◌, ◌≤◌, Some, None, IfSome, IfNone, position, take};
+ghost use Rattle.std.specs.List.{find};
 ghost use Rattle.gs1.specs.Table.{characters_of, least_of, greatest_of, check_of, is_optional};
+ghost use Rattle.gs1.specs.Table.{listed_parts, listed_ranges, listed_numbers, is_row_of, row_of};
+ghost use Rattle.gs1.specs.Table.{primary_keys, qualifiers_of};
+ghost use Rattle.gs1.specs.Table.{components, needed, also_needed, barred};
 
-use Characters::{Base64, Capitals, Digits, Set39, Set82};
-use Check::{
-    CheckDigit, Country, CountryLetters, CountryOrAny, Coupon, Currency, Date, Day, Escapes, Flag,
-    Hour, HourMinute, Hyphen, Iban, Importer, Key, Latitude, LongDay, Longitude, Media, Minute,
-    Model, NoLeadingZero, Nonzero, Nothing, Padding, Piece, Second, Sequence, Sex, Winding, Zero,
-};
+use crate::rows::{KEYS, TABLE};
 use Component::{Needed, Optional};
 
 /// Which characters a component has.
@@ -153,247 +148,220 @@ impl Component {
     }
 }
 
-/// Returns the components of the values of an identifier, or none if it is not assigned.
+/// A component that stands for none.
+const NO_PART: Component = Needed(Characters::Digits, 0, 0, Check::Nothing);
+
+/// A range without identifiers.
+const NO_RANGE: (usize, usize) = (1, 0);
+
+/// The components of the values of a row, in their order.
+#[derive(Clone, Copy, Debug, PartialEq, Eq)]
+pub(crate) enum Parts {
+    OnePart(Component),
+    TwoParts(Component, Component),
+    ThreeParts(Component, Component, Component),
+    FourParts(Component, Component, Component, Component),
+    FiveParts(Component, Component, Component, Component, Component),
+}
+
+impl Parts {
+    /// Returns the components, which stand first in the array, and how many there are.
+    fn list(self) -> ([Component; 5], usize)
+        ensures parts { take result.1 result.0 ≡ listed_parts self }
+        ensures few { result.1 ≤ 5 }
+    {
+        match self {
+            Parts::OnePart(a) => ([a, NO_PART, NO_PART, NO_PART, NO_PART], 1),
+            Parts::TwoParts(a, b) => ([a, b, NO_PART, NO_PART, NO_PART], 2),
+            Parts::ThreeParts(a, b, c) => ([a, b, c, NO_PART, NO_PART], 3),
+            Parts::FourParts(a, b, c, d) => ([a, b, c, d, NO_PART], 4),
+            Parts::FiveParts(a, b, c, d, e) => ([a, b, c, d, e], 5),
+        }
+    }
+}
+
+/// A range of identifiers, the first and the last.
+type Range = (usize, usize);
+
+/// Ranges of identifiers.
+#[derive(Clone, Copy, Debug, PartialEq, Eq)]
+pub(crate) enum Ranges {
+    NoRange,
+    OneRange(Range),
+    TwoRanges(Range, Range),
+    ThreeRanges(Range, Range, Range),
+    FourRanges(Range, Range, Range, Range),
+    FiveRanges(Range, Range, Range, Range, Range),
+    SevenRanges(Range, Range, Range, Range, Range, Range, Range),
+}
+
+impl Ranges {
+    /// Returns the ranges, which stand first in the array, and how many there are.
+    fn list(self) -> ([(usize, usize); 7], usize)
+        ensures ranges { take result.1 result.0 ≡ listed_ranges self }
+        ensures few { result.1 ≤ 7 }
+    {
+        let none = NO_RANGE;
+        match self {
+            Ranges::NoRange => ([none, none, none, none, none, none, none], 0),
+            Ranges::OneRange(a) => ([a, none, none, none, none, none, none], 1),
+            Ranges::TwoRanges(a, b) => ([a, b, none, none, none, none, none], 2),
+            Ranges::ThreeRanges(a, b, c) => ([a, b, c, none, none, none, none], 3),
+            Ranges::FourRanges(a, b, c, d) => ([a, b, c, d, none, none, none], 4),
+            Ranges::FiveRanges(a, b, c, d, e) => ([a, b, c, d, e, none, none], 5),
+            Ranges::SevenRanges(a, b, c, d, e, f, g) => ([a, b, c, d, e, f, g], 7),
+        }
+    }
+}
+
+/// Identifiers in an order.
+#[derive(Clone, Copy, Debug, PartialEq, Eq)]
+pub(crate) enum Numbers {
+    NoNumber,
+    OneNumber([usize; 1]),
+    ThreeNumbers([usize; 3]),
+}
+
+impl Numbers {
+    /// Returns the identifiers.
+    fn list(&self) -> &[usize]
+        ensures { result.now ≡ listed_numbers self.now }
+    {
+        match self {
+            Numbers::NoNumber => &[],
+            Numbers::OneNumber(list) => list,
+            Numbers::ThreeNumbers(list) => list,
+        }
+    }
+}
+
+/// A row of the table: an identifier, or several that have one row in the GS1 General
+/// Specifications, as those of a measure, whose last digit is the place of the decimal point.
+#[derive(Clone, Copy, Debug, PartialEq, Eq)]
+pub(crate) struct Row {
+    /// The first identifier, as a number.
+    pub(crate) first: usize,
+    /// The last identifier.
+    pub(crate) last: usize,
+    /// The components of the values.
+    pub(crate) parts: Parts,
+    /// Whether FNC1 follows an element that is not the last: its length is not predefined.
+    pub(crate) fnc1: bool,
+    /// Whether it is a primary key of links.
+    pub(crate) key: bool,
+    /// The qualifiers of the key in the order of the path.
+    pub(crate) qualifiers: Numbers,
+    /// Those that may stand there in their place.
+    pub(crate) other_qualifiers: Numbers,
+    /// One of these has to stand beside an element, if there are any.
+    pub(crate) needs: Ranges,
+    /// And one of these, if there are any.
+    pub(crate) also_needs: Ranges,
+    /// None of these may.
+    pub(crate) excludes: Ranges,
+}
+
+/// Returns whether a row is that of an identifier.
+fn is_row_of(number: usize, row: &Row) -> bool
+    ensures { result ≡ is_row_of number row.now }
+{
+    row.first <= number && number <= row.last
+}
+
+/// Returns the place of the first of these rows that is that of an identifier.
+fn place_in(rows: &[Row], number: usize) -> Option<usize>
+    ensures { result ≡ position (is_row_of number) rows.now }
+{
+    rows.iter().position(|row| is_row_of(number, row))
+}
+
+/// Returns the first of these rows that is that of an identifier.
+#[tactic(auto, using(crate::proofs::RowLemmas::found_at, crate::proofs::RowLemmas::found_nowhere))]
+fn row_in<'a>(rows: &'a [Row], number: usize) -> Option<&'a Row>
+    ensures some { IfSome result (λ row. find (is_row_of number) rows.now ≡ Some row.now) }
+    ensures none { IfNone result (find (is_row_of number) rows.now ≡ None) }
+{
+    match place_in(rows, number) {
+        Some(place) => Some(&rows[place]),
+        None => None,
+    }
+}
+
+/// Returns the row of an identifier, if it is assigned.
+#[tactic(auto, unfolding(crate::specs::Table::row_of))]
+fn row_of(number: usize) -> Option<&'static Row>
+    ensures some { IfSome result (λ row. row_of number ≡ Some row.now) }
+    ensures none { IfNone result (row_of number ≡ None) }
+{
+    row_in(&TABLE, number)
+}
+
+/// Returns the components of the values of an identifier, which stand first in the array, and how
+/// many there are: none if it is not assigned.
 #[tactic(auto, unfolding(crate::specs::Table::components))]
-pub(crate) fn components(number: usize) -> &'static [Component]
-    ensures { result.now ≡ components number }
+pub(crate) fn components(number: usize) -> ([Component; 5], usize)
+    ensures parts { take result.1 result.0 ≡ components number }
+    ensures few { result.1 ≤ 5 }
 {
-    match number {
-        0..=99 => of_two(number),
-        100..=999 => of_three(number),
-        3000..=3999 => of_measure(number),
-        4000..=4999 => of_transport(number),
-        7000..=7199 => of_meat(number),
-        7200..=7999 => of_person(number),
-        8000..=8009 => of_item(number),
-        _ => of_other(number),
+    match row_of(number) {
+        Some(row) => row.parts.list(),
+        None => ([NO_PART; 5], 0),
     }
 }
 
-/// Returns the components for an identifier of two digits.
-#[tactic(auto, unfolding(crate::specs::Table::components_of_two))]
-fn of_two(number: usize) -> &'static [Component]
-    ensures { result.now ≡ components_of_two number }
+/// Returns the ranges of identifiers of which one has to stand beside this one, if any, first in
+/// the array, and how many there are.
+#[tactic(auto, unfolding(crate::specs::Table::needed))]
+pub(crate) fn needed(number: usize) -> ([(usize, usize); 7], usize)
+    ensures ranges { take result.1 result.0 ≡ needed number }
+    ensures few { result.1 ≤ 7 }
 {
-    match number {
-        0 => &[Needed(Digits, 18, 18, CheckDigit)],
-        1..=3 => &[Needed(Digits, 14, 14, CheckDigit)],
-        10 | 21 | 22 => &[Needed(Set82, 1, 20, Nothing)],
-        11..=13 | 15..=17 => &[Needed(Digits, 6, 6, Date)],
-        20 => &[Needed(Digits, 2, 2, Nothing)],
-        30 | 37 => &[Needed(Digits, 1, 8, Nothing)],
-        90 => &[Needed(Set82, 1, 30, Nothing)],
-        91..=99 => &[Needed(Set82, 1, 90, Nothing)],
-        _ => &[],
+    match row_of(number) {
+        Some(row) => row.needs.list(),
+        None => ([NO_RANGE; 7], 0),
     }
 }
 
-/// Returns the components for an identifier of three digits.
-#[tactic(auto, unfolding(crate::specs::Table::components_of_three))]
-fn of_three(number: usize) -> &'static [Component]
-    ensures { result.now ≡ components_of_three number }
+/// Returns further ranges of identifiers of which one has to stand beside this one, if any.
+#[tactic(auto, unfolding(crate::specs::Table::also_needed))]
+pub(crate) fn also_needed(number: usize) -> ([(usize, usize); 7], usize)
+    ensures ranges { take result.1 result.0 ≡ also_needed number }
+    ensures few { result.1 ≤ 7 }
 {
-    match number {
-        235 => &[Needed(Set82, 1, 28, Nothing)],
-        240 | 241 | 250 | 251 | 400 | 403 => &[Needed(Set82, 1, 30, Nothing)],
-        242 => &[Needed(Digits, 1, 6, Nothing)],
-        243 | 254 | 420 | 710..=717 => &[Needed(Set82, 1, 20, Nothing)],
-        253 => &[
-            Needed(Digits, 13, 13, CheckDigit),
-            Optional(Set82, 1, 17, Nothing),
-        ],
-        255 => &[
-            Needed(Digits, 13, 13, CheckDigit),
-            Optional(Digits, 1, 12, Nothing),
-        ],
-        401 => &[Needed(Set82, 1, 30, Key)],
-        402 => &[Needed(Digits, 17, 17, CheckDigit)],
-        410..=417 => &[Needed(Digits, 13, 13, CheckDigit)],
-        421 => &[Needed(Digits, 3, 3, Country), Needed(Set82, 1, 9, Nothing)],
-        422 | 424 | 426 => &[Needed(Digits, 3, 3, Country)],
-        423 | 425 => &[
-            Needed(Digits, 3, 3, Country),
-            Optional(Digits, 3, 3, Country),
-            Optional(Digits, 3, 3, Country),
-            Optional(Digits, 3, 3, Country),
-            Optional(Digits, 3, 3, Country),
-        ],
-        427 => &[Needed(Set82, 1, 3, Nothing)],
-        _ => &[],
+    match row_of(number) {
+        Some(row) => row.also_needs.list(),
+        None => ([NO_RANGE; 7], 0),
     }
 }
 
-/// Returns whether an identifier is that of a measure.
-fn is_measure(number: usize) -> bool
-    ensures { result ≡ is_measure number }
+/// Returns the ranges of identifiers that may not stand beside this one.
+#[tactic(auto, unfolding(crate::specs::Table::barred))]
+pub(crate) fn barred(number: usize) -> ([(usize, usize); 7], usize)
+    ensures ranges { take result.1 result.0 ≡ barred number }
+    ensures few { result.1 ≤ 7 }
 {
-    number % 10 <= 5 && matches!(number / 10, 310..=316 | 320..=337 | 340..=357 | 360..=369)
-}
-
-/// Returns the components for a measure, an amount or a price.
-#[tactic(auto, unfolding(crate::specs::Table::components_of_measure))]
-fn of_measure(number: usize) -> &'static [Component]
-    ensures { result.now ≡ components_of_measure number }
-{
-    if is_measure(number) {
-        return &[Needed(Digits, 6, 6, Nothing)];
-    }
-    match number {
-        3900..=3909 | 3920..=3929 => &[Needed(Digits, 1, 15, Nothing)],
-        3910..=3919 | 3930..=3939 => &[
-            Needed(Digits, 3, 3, Currency),
-            Needed(Digits, 1, 15, Nothing),
-        ],
-        3940..=3943 => &[Needed(Digits, 4, 4, Nothing)],
-        3950..=3955 => &[Needed(Digits, 6, 6, Nothing)],
-        _ => &[],
+    match row_of(number) {
+        Some(row) => row.excludes.list(),
+        None => ([NO_RANGE; 7], 0),
     }
 }
 
-/// Returns the components for an identifier of transport.
-#[tactic(auto, unfolding(crate::specs::Table::components_of_transport))]
-fn of_transport(number: usize) -> &'static [Component]
-    ensures { result.now ≡ components_of_transport number }
+/// Returns the ranges of the primary keys of links.
+pub fn keys() -> &'static [(usize, usize)]
+    ensures { result.now ≡ primary_keys }
 {
-    match number {
-        4300 | 4301 | 4310 | 4311 | 4320 => &[Needed(Set82, 1, 35, Escapes)],
-        4302..=4306 | 4312..=4316 => &[Needed(Set82, 1, 70, Escapes)],
-        4307 | 4317 => &[Needed(Set82, 2, 2, CountryLetters)],
-        4308 | 4319 => &[Needed(Set82, 1, 30, Nothing)],
-        4309 => &[
-            Needed(Digits, 10, 10, Latitude),
-            Needed(Digits, 10, 10, Longitude),
-        ],
-        4318 => &[Needed(Set82, 1, 20, Nothing)],
-        4321..=4323 => &[Needed(Digits, 1, 1, Flag)],
-        4324 | 4325 => &[Needed(Digits, 6, 6, Date), Needed(Digits, 4, 4, HourMinute)],
-        4326 => &[Needed(Digits, 6, 6, Day)],
-        4330..=4333 => &[Needed(Digits, 6, 6, Nothing), Optional(Set82, 1, 1, Hyphen)],
-        _ => &[],
-    }
+    &KEYS
 }
 
-/// Returns the components for an identifier from 7000 to 7199.
-#[tactic(auto, unfolding(crate::specs::Table::components_of_meat))]
-fn of_meat(number: usize) -> &'static [Component]
-    ensures { result.now ≡ components_of_meat number }
+/// Returns the qualifiers of a key in the order of the path of a link, of the first set or of the
+/// second one, which some keys have.
+#[tactic(auto, unfolding(crate::specs::Table::qualifiers_of))]
+pub fn qualifiers(number: usize, second: bool) -> &'static [usize]
+    ensures { result.now ≡ qualifiers_of number second }
 {
-    match number {
-        7001 => &[Needed(Digits, 13, 13, Nothing)],
-        7002 => &[Needed(Set82, 1, 30, Nothing)],
-        7003 => &[Needed(Digits, 6, 6, Day), Needed(Digits, 4, 4, HourMinute)],
-        7004 => &[Needed(Digits, 1, 4, Nothing)],
-        7005 => &[Needed(Set82, 1, 12, Nothing)],
-        7006 => &[Needed(Digits, 6, 6, Day)],
-        7007 => &[Needed(Digits, 6, 6, Day), Optional(Digits, 6, 6, Day)],
-        7008 => &[Needed(Set82, 1, 3, Nothing)],
-        7009 => &[Needed(Set82, 1, 10, Nothing)],
-        7010 => &[Needed(Set82, 1, 2, Nothing)],
-        7011 => &[
-            Needed(Digits, 6, 6, Day),
-            Optional(Digits, 4, 4, HourMinute),
-        ],
-        7020..=7022 => &[Needed(Set82, 1, 20, Nothing)],
-        7023 => &[Needed(Set82, 1, 30, Key)],
-        7030..=7039 => &[
-            Needed(Digits, 3, 3, CountryOrAny),
-            Needed(Set82, 1, 27, Nothing),
-        ],
-        7040 => &[
-            Needed(Digits, 1, 1, Nothing),
-            Needed(Set82, 1, 1, Nothing),
-            Needed(Set82, 1, 1, Nothing),
-            Needed(Set82, 1, 1, Importer),
-        ],
-        7041 => &[Needed(Capitals, 1, 4, Nothing)],
-        _ => &[],
-    }
-}
-
-/// Returns the components for an identifier from 7200 to 7999.
-#[tactic(auto, unfolding(crate::specs::Table::components_of_person))]
-fn of_person(number: usize) -> &'static [Component]
-    ensures { result.now ≡ components_of_person number }
-{
-    match number {
-        7230..=7239 => &[Needed(Set82, 2, 2, Nothing), Needed(Set82, 1, 28, Nothing)],
-        7240 => &[Needed(Set82, 1, 20, Nothing)],
-        7241 => &[Needed(Digits, 2, 2, Media)],
-        7242 => &[Needed(Set82, 1, 25, Nothing)],
-        7250 => &[Needed(Digits, 8, 8, LongDay)],
-        7251 => &[
-            Needed(Digits, 8, 8, LongDay),
-            Needed(Digits, 4, 4, HourMinute),
-        ],
-        7252 => &[Needed(Digits, 1, 1, Sex)],
-        7253 | 7254 | 7259 => &[Needed(Set82, 1, 40, Escapes)],
-        7255 => &[Needed(Set82, 1, 10, Escapes)],
-        7256 => &[Needed(Set82, 1, 90, Escapes)],
-        7257 => &[Needed(Set82, 1, 70, Escapes)],
-        7258 => &[Needed(Set82, 3, 3, Sequence)],
-        _ => &[],
-    }
-}
-
-/// Returns the components for an identifier from 8000 to 8009.
-#[tactic(auto, unfolding(crate::specs::Table::components_of_item))]
-fn of_item(number: usize) -> &'static [Component]
-    ensures { result.now ≡ components_of_item number }
-{
-    match number {
-        8001 => &[
-            Needed(Digits, 4, 4, Nonzero),
-            Needed(Digits, 5, 5, Nonzero),
-            Needed(Digits, 3, 3, Nonzero),
-            Needed(Digits, 1, 1, Winding),
-            Needed(Digits, 1, 1, Nothing),
-        ],
-        8002 => &[Needed(Set82, 1, 20, Nothing)],
-        8003 => &[
-            Needed(Digits, 1, 1, Zero),
-            Needed(Digits, 13, 13, CheckDigit),
-            Optional(Set82, 1, 16, Nothing),
-        ],
-        8004 => &[Needed(Set82, 1, 30, Key)],
-        8005 => &[Needed(Digits, 6, 6, Nothing)],
-        8006 => &[
-            Needed(Digits, 14, 14, CheckDigit),
-            Needed(Digits, 4, 4, Piece),
-        ],
-        8007 => &[Needed(Capitals, 5, 34, Iban)],
-        8008 => &[
-            Needed(Digits, 6, 6, Day),
-            Needed(Digits, 2, 2, Hour),
-            Optional(Digits, 2, 2, Minute),
-            Optional(Digits, 2, 2, Second),
-        ],
-        8009 => &[Needed(Set82, 1, 50, Nothing)],
-        _ => &[],
-    }
-}
-
-/// Returns the components for an identifier from 8010 on.
-#[tactic(auto, unfolding(crate::specs::Table::components_of_other))]
-fn of_other(number: usize) -> &'static [Component]
-    ensures { result.now ≡ components_of_other number }
-{
-    match number {
-        8010 => &[Needed(Set39, 1, 30, Key)],
-        8011 => &[Needed(Digits, 1, 12, NoLeadingZero)],
-        8012 => &[Needed(Set82, 1, 20, Nothing)],
-        8013 | 8014 => &[Needed(Set82, 1, 25, Model)],
-        8017 | 8018 => &[Needed(Digits, 18, 18, CheckDigit)],
-        8019 => &[Needed(Digits, 1, 10, Nothing)],
-        8020 => &[Needed(Set82, 1, 25, Nothing)],
-        8026 => &[
-            Needed(Digits, 14, 14, CheckDigit),
-            Needed(Digits, 4, 4, Piece),
-        ],
-        8030 => &[Needed(Base64, 1, 90, Padding)],
-        8110 => &[Needed(Digits, 1, 70, Coupon(true))],
-        8112 => &[Needed(Digits, 1, 70, Coupon(false))],
-        8200 => &[Needed(Set82, 1, 70, Nothing)],
-        8111 => &[Needed(Digits, 4, 4, Nothing)],
-        _ => &[],
+    match row_of(number) {
+        Some(row) if second => row.other_qualifiers.list(),
+        Some(row) => row.qualifiers.list(),
+        None => &[],
     }
 }

@@ -7,8 +7,8 @@ ghost use Rattle.gs1.specs.Together.{is_among, first_among, point_fault};
 ghost use Rattle.gs1.specs.Together.{missing_fault, barred_fault, element_conflict};
 ghost use Rattle.gs1.specs.Together.{first_conflict, text_conflict};
 
-use crate::associations::{also_needed, barred, needed};
 use crate::changes::check_changes;
+use crate::table::{also_needed, barred, needed};
 use crate::values::number_of;
 use gs1_base::cuts::{behind, first_of};
 use thiserror::Error;
@@ -171,9 +171,12 @@ pub fn check_beside<E: ElementList>(
 ) -> Result<(), TogetherError>
     ensures { result_err result ≡ element_conflict (E.elements all.now) element identifier }
 {
-    check_needed(needed(identifier), all, element, identifier)?;
-    check_needed(also_needed(identifier), all, element, identifier)?;
-    check_barred(barred(identifier), all, element, identifier)?;
+    let (needs, count) = needed(identifier);
+    check_needed(&needs[..count], all, element, identifier)?;
+    let (needs, count) = also_needed(identifier);
+    check_needed(&needs[..count], all, element, identifier)?;
+    let (excludes, count) = barred(identifier);
+    check_barred(&excludes[..count], all, element, identifier)?;
     check_point(all, element, identifier)
 }
 

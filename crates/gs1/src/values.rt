@@ -170,8 +170,9 @@ fn check_identifier(element: usize, identifier: &[u8]) -> Result<(), CheckError>
 fn is_assigned(identifier: &[u8]) -> bool
     ensures { result ≡ is_assigned identifier.now }
 {
+    let (components, count) = components(number_of(identifier));
     identifier_length(identifier).unwrap_or(0) == identifier.len()
-        && !components(number_of(identifier)).is_empty()
+        && !components[..count].is_empty()
 }
 
 /// Checks a value, of at least one character, of the identifier of this number.
@@ -180,7 +181,8 @@ fn check_some_value(identifier: usize, value: &[u8]) -> Result<(), Fault>
         (value_fault (components identifier) 0 value.now) }
 {
     fault_if(value.is_empty(), 0, Reason::TooShort)?;
-    check_value(components(identifier), value)
+    let (components, count) = components(identifier);
+    check_value(&components[..count], value)
 }
 
 /// Checks the value of an identifier.

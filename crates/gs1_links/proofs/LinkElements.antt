@@ -13,7 +13,7 @@ use Rattle.gs1_base.specs.Characters.{is_decimal_digit}
 use Rattle.gs1.specs.Elements.{Element}
 use Rattle.gs1.specs.Values.{element_error, first_error, identifier_error, value_error}
 use Rattle.gs1.specs.Together.{is_among, first_among}
-use Rattle.gs1_links.specs.Links.{keys, number, is_attribute, order_of, second_set, place_with, element_with}
+use Rattle.gs1_links.specs.Links.{keys, number, is_attribute, order_of, has_second, place_with, element_with}
 use Rattle.gs1_links.specs.Links.{primary_key, order_for, qualifier_order, first_rule_fault, no_key_fault}
 use Rattle.gs1_links.specs.Links.{qualifier_fault, later_fault, second_key_fault, repeated_fault}
 use Rattle.gs1_links.specs.LinkReader.{follows, has_twins}
@@ -274,7 +274,7 @@ pub key_order : (elements : List Element) (key : Element) → primary_key elemen
 key_order elements key is =
     let same : qualifier_order elements ≡ order_for elements (number key) = ap (λ o. order_for elements (unwrap_or (option_map number o) 0)) is in
     let follow = in_order elements (qualifier_order elements) in
-    elim (is_some (place_with (second_set (number key)) elements)) as (λ b. qualifier_order elements ≡ order_of (number key) b →
+    elim (has_second elements (number key)) as (λ b. qualifier_order elements ≡ order_of (number key) b →
     (follows (map number (qualifying (qualifier_order elements) elements)) (order_of (number key) false) ≡ true)
     ⊎ (follows (map number (qualifying (qualifier_order elements) elements)) (order_of (number key) true) ≡ true)) [
       | true ↦ λ e. inr (let P : List ℕ → Type 0 = λ o. follows (map number (qualifying (qualifier_order elements) elements)) o ≡ true in subst P e follow)

@@ -1,5 +1,5 @@
 -- No element of a text without a fault is lost in its link.
-use Rattle.std.proofs.Common.{◌≡◌, ℕ, zero, suc, ◌+◌, ◌<◌, Bool, true, false, cond, not, List, [], ◌∷◌}
+use Rattle.std.proofs.Common.{◌≡◌, ℕ, zero, suc, ◌+◌, ◌<◌, Bool, true, false, cond, List, [], ◌∷◌}
 use Rattle.std.proofs.Common.{get_or, refl, arith, ap, sym, subst, ◌∙◌}
 use Rattle.std.specs.Prelude.{All, Contains, Option, None, Some, is_some, ◌&&◌, ◌||◌, ◌==◌, if◌then◌else◌, slice_get}
 use Rattle.std.specs.List.{list_any, filter}
@@ -129,55 +129,19 @@ not_excluded excluded place n none = no (list_any (λ m. m == n) excluded) (Wron
     no true x e = absurd (none_some x (sym e))
     no false x e = refl
 
--- But for two keys the sets are the same.
-same_sets : (key : ℕ) → ((key == 1) || (key == 414)) ≡ false → order_of key false ≡ order_of key true
-unfolding order_of
-same_sets key e =
-    let each = neither_is (key == 1) (key == 414) e in rw (each.0, each.1) refl
-  where
-    neither_is : (a b : Bool) → (a || b) ≡ false → (a ≡ false) × (b ≡ false)
-    neither_is true b e = absurd (let h : true ≡ false = e in cc)
-    neither_is false b e = (refl, e)
-
 -- Of the qualifiers of a key, those that are not excluded are in the order.
 in_order_of : (key : ℕ) (second : Bool) (n : ℕ) → list_any (λ m. m == n) (excluded_of key second) ≡ false →
     qualifies key n ≡ true → list_any (λ m. m == n) (order_of key second) ≡ true
-unfolding excluded_of
-in_order_of key second n none is =
-    elim ((key == 1) || (key == 414)) as (λ b. ((key == 1) || (key == 414)) ≡ b →
-    list_any (λ m. m == n) (cond b (order_of key (not second)) []) ≡ false → list_any (λ m. m == n) (order_of key second) ≡ true) [
-      | true ↦ λ two other. of_two second other
-      | false ↦ λ one other. of_one second (same_sets key one)
-    ] refl none
+in_order_of key true n other is = right (list_any (λ m. m == n) (order_of key false)) (list_any (λ m. m == n) (order_of key true)) other is
+  where
+    right : (a b : Bool) → a ≡ false → (a || b) ≡ true → b ≡ true
+    right true b other either = absurd (let h : true ≡ false = other in cc)
+    right false b other either = either
+in_order_of key false n other is = left (list_any (λ m. m == n) (order_of key false)) (list_any (λ m. m == n) (order_of key true)) other is
   where
     left : (a b : Bool) → b ≡ false → (a || b) ≡ true → a ≡ true
     left true b other either = refl
     left false b other either = absurd (let h : false ≡ true = sym other ∙ either in cc)
-
-    right : (a b : Bool) → a ≡ false → (a || b) ≡ true → b ≡ true
-    right true b other either = absurd (let h : true ≡ false = other in cc)
-    right false b other either = either
-
-    of_two : (second : Bool) → list_any (λ m. m == n) (order_of key (not second)) ≡ false →
-        list_any (λ m. m == n) (order_of key second) ≡ true
-    of_two true other = right (list_any (λ m. m == n) (order_of key false)) (list_any (λ m. m == n) (order_of key true)) other is
-    of_two false other = left (list_any (λ m. m == n) (order_of key false)) (list_any (λ m. m == n) (order_of key true)) other is
-
-    both_same : (a : Bool) → (a || a) ≡ true → a ≡ true
-    both_same true e = refl
-    both_same false e = e
-
-    of_one : (second : Bool) → order_of key false ≡ order_of key true → list_any (λ m. m == n) (order_of key second) ≡ true
-    of_one second same =
-        let A : List ℕ → Bool = λ order. list_any (λ m. m == n) order in
-        let P : List ℕ → Type 0 = λ order. (A order || A (order_of key true)) ≡ true in
-        let last : A (order_of key true) ≡ true = both_same (A (order_of key true)) (subst P same is) in
-        pick second last (ap A same ∙ last)
-      where
-        pick : (second : Bool) → list_any (λ m. m == n) (order_of key true) ≡ true →
-            list_any (λ m. m == n) (order_of key false) ≡ true → list_any (λ m. m == n) (order_of key second) ≡ true
-        pick true last first = last
-        pick false last first = first
 
 itself : (e : Element) → Contains (e ∷ []) e
 itself e = (0, omega arith, refl)

@@ -8,7 +8,7 @@ use Rattle.std.proofs.lemmas.List.Elements.{All-nil, All-cons, All-head, All-tai
 use Rattle.std.proofs.lemmas.List.Elements.{All-contains_itself}
 use Rattle.std.proofs.lemmas.List.Folds.{list_any_at}
 use Rattle.gs1.specs.Elements.{Element}
-use Rattle.gs1.specs.Associations.{needed, also_needed, barred}
+use Rattle.gs1.specs.Table.{needed, also_needed, barred}
 use Rattle.gs1.specs.Together.{is_among, first_among, missing_fault, barred_fault, has_point, elsewhere, point_fault}
 use Rattle.gs1.specs.Together.{element_conflict, first_conflict}
 use Rattle.gs1.specs.declared.together.TogetherError.TheVariants.{MissingElement, ConflictingElement}

@@ -1,7 +1,7 @@
 -- No link is read as two lists of elements.
 use Rattle.std.proofs.Common.{◌≡◌, ℕ, ◌+◌, ◌-◌, ◌*◌, ◌<◌, ◌≤◌, Bool, true, false, cond, not, zero, suc, List, [], ◌∷◌, ◌++◌}
 use Rattle.std.proofs.Common.{length, map, drop, refl, arith, ap, sym, subst, ◌∙◌, inl, inr, length-append}
-use Rattle.std.specs.Prelude.{All, None, Some, ◌==◌, ◌||◌}
+use Rattle.std.specs.Prelude.{All, None, Some, ◌==◌}
 use Rattle.std.specs.List.{slice_split, before_first, after_first, list_all}
 use Rattle.std.proofs.lemmas.Grind.{common_steps}
 use Rattle.std.proofs.lemmas.Bool.{cases_lt}
@@ -17,6 +17,7 @@ use Rattle.gs1_base.specs.Domains.{is_slash}
 use Rattle.gs1_links.specs.LinkReader.{after_scheme, is_question, query_parts, ReadsPath, ReadsQuery, follows}
 use Rattle.gs1_links.specs.LinkReader.{AreLinked, LinksHaveOneReading}
 use Rattle.gs1.proofs.Faults.{both}
+use Rattle.gs1.proofs.RowLemmas.{qualifiers_no_keys}
 use Rattle.gs1_base.proofs.Percents.{one_text}
 use Rattle.gs1_links.proofs.LinkCuts.{IsFree, before_at, after_at}
 use Rattle.gs1_links.proofs.LinkElements.{IsLinkable, linkable}
@@ -87,29 +88,9 @@ reads_later (suc n) segments (e ∷ elements) reads within =
 abbrev pub no_key : ℕ → Bool
 no_key n = not (is_among keys n)
 
-if_all : (b : Bool) (xs ys : List ℕ) → list_all no_key xs ≡ true → list_all no_key ys ≡ true →
-    list_all no_key (cond b xs ys) ≡ true
-if_all true xs ys first second = first
-if_all false xs ys first second = second
-
 -- No qualifier of a key is a key.
 order_no_keys : (key : ℕ) (second : Bool) → list_all no_key (order_of key second) ≡ true
-unfolding order_of
-order_no_keys key second =
-    let r6 : List ℕ = cond ((key == 8017) || (key == 8018)) (8019 ∷ []) [] in
-    let r5 : List ℕ = cond (key == 8010) (8011 ∷ []) r6 in
-    let r4 : List ℕ = cond (key == 415) (8020 ∷ []) r5 in
-    let r3 : List ℕ = cond ((key == 417) || (key == 8004)) (7040 ∷ []) r4 in
-    let r2 : List ℕ = cond (key == 414) (cond second (7040 ∷ []) (254 ∷ [])) r3 in
-    let r1 : List ℕ = cond (key == 8006) (22 ∷ 10 ∷ 21 ∷ []) r2 in
-    if_all (key == 1) (cond second (235 ∷ []) (22 ∷ 10 ∷ 21 ∷ [])) r1
-    (if_all second (235 ∷ []) (22 ∷ 10 ∷ 21 ∷ []) refl refl)
-    (if_all (key == 8006) (22 ∷ 10 ∷ 21 ∷ []) r2 refl
-    (if_all (key == 414) (cond second (7040 ∷ []) (254 ∷ [])) r3 (if_all second (7040 ∷ []) (254 ∷ []) refl refl)
-    (if_all ((key == 417) || (key == 8004)) (7040 ∷ []) r4 refl
-    (if_all (key == 415) (8020 ∷ []) r5 refl
-    (if_all (key == 8010) (8011 ∷ []) r6 refl
-    (if_all ((key == 8017) || (key == 8018)) (8019 ∷ []) [] refl refl))))))
+order_no_keys key second = qualifiers_no_keys key second
 
 same_number : (m n : ℕ) → (m == n) ≡ true → m ≡ n
 same_number m n e = grind (arith, common_steps)

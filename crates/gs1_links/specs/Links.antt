@@ -8,6 +8,7 @@ use Rattle.std.specs.Option.{option_or, option_map, option_and_then, option_to_l
 use Rattle.gs1_base.specs.Domains.{is_domain}
 use Rattle.gs1.specs.Elements.{Element, written_elements}
 use Rattle.gs1.specs.Values.{number_of_identifier, text_error}
+use Rattle.gs1.specs.Table.{primary_keys, qualifiers_of}
 use Rattle.gs1.specs.Together.{is_among, first_among, first_conflict}
 use Rattle.gs1_base.specs.Percent.{percent_text}
 use Rattle.gs1_links.specs.Capitals.{capital_domain}
@@ -20,29 +21,19 @@ use Rattle.gs1_links.specs.declared.link_error.LinkError.TheVariants.{RepeatedEl
 
 -- The primary keys, as ranges ("Primary identification keys").
 abbrev pub keys : List (ℕ × ℕ)
-keys =
-    (0, 1) ∷ (253, 253) ∷ (255, 255) ∷ (401, 402) ∷ (414, 415) ∷ (417, 417) ∷ (8003, 8004)
-    ∷ (8006, 8006) ∷ (8010, 8010) ∷ (8013, 8014) ∷ (8017, 8018) ∷ []
+keys = primary_keys
 
 abbrev pub number : Element → ℕ
 number e = number_of_identifier e.identifier
 
--- The qualifiers of a key in the order of the path ("Key qualifiers"). The keys 01 and 414 have two
--- sets of them, of which a link has one.
-unfoldable pub order_of : ℕ → Bool → List ℕ
-order_of key second =
-    if key == 1 then (if second then 235 ∷ [] else 22 ∷ 10 ∷ 21 ∷ [])
-    else (if key == 8006 then 22 ∷ 10 ∷ 21 ∷ []
-    else (if key == 414 then (if second then 7040 ∷ [] else 254 ∷ [])
-    else (if (key == 417) || (key == 8004) then 7040 ∷ []
-    else (if key == 415 then 8020 ∷ []
-    else (if key == 8010 then 8011 ∷ []
-    else (if (key == 8017) || (key == 8018) then 8019 ∷ []
-    else []))))))
+-- The qualifiers of a key in the order of the path ("Key qualifiers"). Some keys have two sets of
+-- them, of which a link has one.
+abbrev pub order_of : ℕ → Bool → List ℕ
+order_of key second = qualifiers_of key second
 
 -- The qualifiers of the set that a link has not.
-unfoldable pub excluded_of : ℕ → Bool → List ℕ
-excluded_of key second = if (key == 1) || (key == 414) then order_of key (not second) else []
+abbrev pub excluded_of : ℕ → Bool → List ℕ
+excluded_of key second = order_of key (not second)
 
 -- An identifier qualifies a key.
 abbrev pub qualifies : ℕ → ℕ → Bool
@@ -52,10 +43,6 @@ qualifies key n =
 -- Beside this key an element is an attribute: it is no key, and does not qualify this one.
 abbrev pub is_attribute : ℕ → Element → Bool
 is_attribute key e = not (is_among keys (number e)) && not (qualifies key (number e))
-
--- The qualifier of the second set.
-abbrev pub second_set : ℕ → ℕ
-second_set key = if key == 1 then 235 else 7040
 
 -- The place of the first element of this identifier, and this element.
 abbrev pub place_with : ℕ → List Element → Option ℕ
@@ -73,8 +60,9 @@ primary_key elements =
 abbrev pub key_number : List Element → ℕ
 key_number elements = unwrap_or (option_map number (primary_key elements)) 0
 
+-- A qualifier of the second set of a key is there.
 abbrev pub has_second : List Element → ℕ → Bool
-has_second elements key = is_some (place_with (second_set key) elements)
+has_second elements key = list_any (λ n. is_some (place_with n elements)) (order_of key true)
 
 abbrev pub order_for : List Element → ℕ → List ℕ
 order_for elements key = order_of key (has_second elements key)

@@ -1,8 +1,8 @@
 //! Which elements a link may have, and where they stand in it.
-ghost use Rattle.std.specs.Prelude.{◌≡◌, ◌&&◌, not, None, Some, IfNone, IfSome};
+ghost use Rattle.std.specs.Prelude.{◌≡◌, ◌&&◌, not, None, Some, IfNone, IfSome, is_some};
 ghost use Rattle.std.specs.Result.{result_err};
 ghost use Rattle.gs1.specs.Elements.{element_of, elements_behind, written_elements};
-ghost use Rattle.gs1_links.specs.Links.{keys, order_of, excluded_of, second_set, element_with};
+ghost use Rattle.gs1_links.specs.Links.{keys, order_of, place_with, element_with};
 ghost use Rattle.gs1_links.specs.Links.{primary_key, key_number, has_second, qualifier_order};
 ghost use Rattle.gs1_links.specs.Links.{excluded_qualifiers, qualifies, qualifier_fault, second_key_fault, repeated_fault};
 ghost use Rattle.gs1_links.specs.Links.{later_fault, first_rule_fault, no_key_fault, elements_fault};
@@ -11,28 +11,10 @@ ghost use Rattle.gs1.specs.Together.{is_among};
 
 use crate::link_error::LinkError;
 use gs1::strings::{Element, written_element};
+use gs1::table::{keys, qualifiers};
 use gs1::together::{first_among, is_among, number_at};
 use gs1::values::number_of;
 use gs1_base::cuts::{behind, first_of};
-
-/// Returns the ranges of the primary keys.
-fn keys() -> &'static [(usize, usize)]
-    ensures { result.now ≡ keys }
-{
-    &[
-        (0, 1),
-        (253, 253),
-        (255, 255),
-        (401, 402),
-        (414, 415),
-        (417, 417),
-        (8003, 8004),
-        (8006, 8006),
-        (8010, 8010),
-        (8013, 8014),
-        (8017, 8018),
-    ]
-}
 
 /// Returns whether an identifier is a primary key.
 pub(crate) fn is_key(number: usize) -> bool
@@ -63,38 +45,10 @@ pub(crate) fn is_attribute(key: usize, part: &[u8]) -> bool
 }
 
 /// Returns the qualifiers of a key in the order of the path, of the first or of the second set.
-#[tactic(auto, unfolding(crate::specs::Links::order_of))]
 pub(crate) fn order_of(key: usize, second: bool) -> &'static [usize]
     ensures { result.now ≡ order_of key second }
 {
-    match key {
-        1 if second => &[235],
-        1 | 8006 => &[22, 10, 21],
-        414 if !second => &[254],
-        414 | 417 | 8004 => &[7040],
-        415 => &[8020],
-        8010 => &[8011],
-        8017 | 8018 => &[8019],
-        _ => &[],
-    }
-}
-
-/// Returns the qualifiers of a key that its link has not, beside the first or the second set.
-#[tactic(auto, unfolding(crate::specs::Links::excluded_of))]
-fn excluded_of(key: usize, second: bool) -> &'static [usize]
-    ensures { result.now ≡ excluded_of key second }
-{
-    match key {
-        1 | 414 => order_of(key, !second),
-        _ => &[],
-    }
-}
-
-/// Returns the qualifier of the second set of a key.
-fn second_set(key: usize) -> usize
-    ensures { result ≡ second_set key }
-{
-    if key == 1 { 235 } else { 7040 }
+    qualifiers(key, second)
 }
 
 /// Returns the first element of a text with this identifier.
@@ -127,12 +81,20 @@ pub(crate) fn key_number(text: &[u8]) -> usize
     }
 }
 
-/// Returns whether a text has the second set of the qualifiers of a key.
+/// Returns whether a text has an element with this identifier.
+fn has_number(number: usize, text: &[u8]) -> bool
+    ensures { result ≡ is_some (place_with number (written_elements text.now)) }
+{
+    first_among(&[(number, number)], behind(text, 0)).is_some()
+}
+
+/// Returns whether a text has a qualifier of the second set of a key.
 fn has_second(key: usize, text: &[u8]) -> bool
     ensures { result ≡ has_second (written_elements text.now) key }
 {
-    let second = second_set(key);
-    first_among(&[(second, second)], behind(text, 0)).is_some()
+    order_of(key, true)
+        .iter()
+        .any(|number| has_number(*number, text))
 }
 
 /// Returns the qualifiers that may stand in the link of a text, in their order.
@@ -148,7 +110,7 @@ fn excluded_qualifiers(text: &[u8]) -> &'static [usize]
     ensures { result.now ≡ excluded_qualifiers (written_elements text.now) }
 {
     let key = key_number(text);
-    excluded_of(key, has_second(key, text))
+    order_of(key, !has_second(key, text))
 }
 
 /// Checks that an element is none of the qualifiers that a link has not.

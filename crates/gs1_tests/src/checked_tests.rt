@@ -244,7 +244,7 @@ fn names_the_reason(rt: HostRuntime) {
 }
 
 /// Texts with another fault. Nobody assigns these identifiers.
-static UNKNOWN: [(&str, CheckError); 9] = [
+static UNKNOWN: [(&str, CheckError); 10] = [
     ("10(21)A", CheckError::NoElements),
     ("(1)A", CheckError::InvalidIdentifier { element: 0 }),
     (
@@ -280,6 +280,13 @@ static UNKNOWN: [(&str, CheckError); 9] = [
         CheckError::UnknownIdentifier {
             element: 0,
             identifier: 3106,
+        },
+    ),
+    (
+        "(3944)0010",
+        CheckError::UnknownIdentifier {
+            element: 0,
+            identifier: 3944,
         },
     ),
     (

@@ -2,7 +2,7 @@
 use gs1::{CheckError, Element, Reason, brackets, elements_of, scanned, string_brackets};
 
 /// What scanners give, with the element of a number, or none if there are no more.
-static SCANS: [(&[u8], usize, Option<(&[u8], &[u8])>); 10] = [
+static SCANS: [(&[u8], usize, Option<(&[u8], &[u8])>); 12] = [
     (
         b"]Q3010950600013435210ABC\x1d217",
         0,
@@ -22,6 +22,9 @@ static SCANS: [(&[u8], usize, Option<(&[u8], &[u8])>); 10] = [
         Some((b"01", b"09506000134352")),
     ),
     (b"0109506000134352\x1d", 1, None),
+    // The second of two separators ends an element whose length is not predefined.
+    (b"10A\x1d\x1d", 0, Some((b"10", b"A"))),
+    (b"10A\x1d\x1d", 1, None),
 ];
 
 #[test]
@@ -35,7 +38,8 @@ fn finds_elements_of_scans(rt: HostRuntime) {
 }
 
 /// Scans with a fault. Of marks in front only `]Q3` is left out, and only once, and at the end one
-/// separator.
+/// separator. The second of two is no part of an element of predefined length, and begins none: the
+/// number is that of the element that would begin there.
 static FAULTS: [(&[u8], CheckError); 8] = [
     (b"", CheckError::NoElements),
     (b"]Q3", CheckError::NoElements),

@@ -3,14 +3,16 @@ use gs1::{TogetherError, check_together};
 use std::alloc::Global;
 
 /// Texts whose elements stand together: a trade item with a date and a batch, a count of trade
-/// items in a logistic unit, a price with a weight, a party that pays, no assigned identifier, and
-/// others.
-static TOGETHER: [&str; 15] = [
+/// items in a logistic unit, a price with a weight, a party that pays, no assigned identifier, the
+/// volume of a logistic unit, and others.
+static TOGETHER: [&str; 17] = [
     "(01)09506000134352(17)261200(10)ABC123(21)7",
     "(00)106141412345678908(02)09506000134352(37)20(400)A",
     "(01)09506000134352(3103)000189(3922)2172",
     "(415)4226350800008(8020)ABC(3910)9781",
     "(4399)A(90)B",
+    "(3106)000001",
+    "(00)106141412345678908(3360)000100",
     "(255)9506000134352(3900)1",
     "(00)106141412345678908(8026)095060001343520102(37)1",
     "(00)106141412345678908(3302)001234(4330)001234-",

@@ -284,7 +284,7 @@ fn refuses_links(rt: HostRuntime) {
 }
 
 /// Contents of elements, and the line that has them.
-static HRI: [(&str, &[u8], &[u8]); 5] = [
+static HRI: [(&str, &[u8], &[u8]); 9] = [
     (
         "gs1",
         b"(01)09506000134352(10)ABC\n",
@@ -302,6 +302,26 @@ static HRI: [(&str, &[u8], &[u8]); 5] = [
         b"(10)ABC(01)09506000134352",
         b"(10)ABC(01)09506000134352\n",
     ),
+    (
+        "gs1",
+        b"(01)09506000134352(10)ABC(17)261231(21)7",
+        b"(01)09506000134352\n(10)ABC\n(17)261231\n(21)7\n",
+    ),
+    (
+        "gs1",
+        b"010950600013435210ABC\x1D1726123121ABCDEFGHIJ",
+        b"(01)09506000134352\n(10)ABC\n(17)261231\n(21)ABCDEFGHIJ\n",
+    ),
+    (
+        "gs1-unchecked",
+        b"010950600013435210AB(C\x1D1726123121ABCDEFGHIJ",
+        b"(01)09506000134352(10)AB(C(17)261231(\n21)ABCDEFGHIJ\n",
+    ),
+    (
+        "link",
+        b"(01)09506000134352(10)ABC(17)261231(21)ABCDEFGHIJ",
+        b"(01)09506000134352\n(10)ABC\n(17)261231\n(21)ABCDEFGHIJ\n",
+    ),
 ];
 
 /// Whether `--hri` adds this line to a label, and nothing else.
@@ -309,6 +329,31 @@ fn adds_line(alloc: Global, content: &str, input: &[u8], line: &[u8]) -> bool {
     let plain = ran(alloc, &["-f", "terminal", "-c", content], input);
     let more = ran(alloc, &["-f", "terminal", "--hri", "-c", content], input);
     more.status == 0 && more.label.strip_prefix(plain.label.as_slice()) == Some(line)
+}
+
+/// Whether bytes have a part.
+fn has(bytes: &[u8], part: &[u8]) -> bool {
+    for n in 0..bytes.len() {
+        if bytes[n..].starts_with(part) {
+            return true;
+        }
+    }
+    false
+}
+
+/// Version 2 has 33 modules with its quiet zone, and 27 characters of 2 modules a line. 18 characters
+/// of 3 modules are 32.4 wide, so that they begin at 0.3.
+#[test]
+fn writes_elements_below_pages(rt: HostRuntime) {
+    let words = ["-f", "pdf", "-c", "gs1", "--hri"];
+    let label = ran(rt.alloc(), &words, b"(01)09506000134352(10)ABC(17)261231");
+    assert!(rt; label.status == 0);
+    let lines = b"\nBT\n/F 3.00 Tf\n\
+1 0 0 -1 0.30 36 Tm(\\(01\\)09506000134352)Tj\n\
+1 0 0 -1 10.20 39 Tm(\\(10\\)ABC)Tj\n\
+1 0 0 -1 7.50 42 Tm(\\(17\\)261231)Tj\nET\nendstream";
+    assert!(rt; has(&label.label, lines));
+    assert!(rt; has(&label.label, b"/BaseFont/Courier"));
 }
 
 #[test]

@@ -55,7 +55,7 @@ fn stops_at_a_line(rt: HostRuntime) -> Result<(), QrError> {
     let alloc = rt.alloc();
     let mut long = Vec::new(alloc);
     long.extend_from_slice(b"a\nb\n")?;
-    long.resize(4 + 7091 + 9, b'x')?;
+    long.resize(4 + 4 * 7089 + 2 + 9, b'x')?;
     let empty = "qrlabel: line 3: empty input, see --allow-empty\n";
     assert!(rt; stops(alloc, b"a\nb\n\nc\n", 2, 2, empty));
     let empty = "qrlabel: line 1: empty input, see --allow-empty\n";
@@ -191,7 +191,7 @@ fn stops_at_a_file_that_fails(rt: HostRuntime) {
 fn leaves_lines_out(rt: HostRuntime) -> Result<(), QrError> {
     let mut input = Vec::new(rt.alloc());
     input.extend_from_slice(b"a\n\nb\n")?;
-    input.resize(5 + 9000, b'x')?;
+    input.resize(5 + 30000, b'x')?;
     input.extend_from_slice(b"\r\nhello\n")?;
     let words = ["--lines", "-k", "--first", "7", "-f", "pbm", "-s", "1"];
     let answer = ran(rt.alloc(), &words, &input);

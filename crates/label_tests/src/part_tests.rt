@@ -64,24 +64,31 @@ fn splits_texts(rt: HostRuntime) -> Result<(), QrError> {
 }
 
 /// 2,400 letters of Thai have 7,200 bytes in UTF-8, and take 12 + 4 + 16 + 2400 * 8 bits: version 36
-/// has 161 modules a side and room for them.
+/// has 161 modules a side and room for them. They are one code, of the whole input and of a line.
 #[test]
-fn splits_no_text_that_a_symbol_holds(rt: HostRuntime) -> Result<(), QrError> {
+fn draws_one_symbol_of_many_bytes(rt: HostRuntime) -> Result<(), QrError> {
     let mut text = Vec::new(rt.alloc());
     for place in 0..2400 {
         text.extend_from_slice("\u{e2a}".as_bytes())?;
     }
-    let answer = ran(rt.alloc(), &["--split", "-lL", "-fpbm", "-s1"], &text);
-    assert!(rt; answer.has_length(11 + 169 * 22));
+    text.push(b'\n')?;
+    for portion in ["-v", "--split", "--lines"] {
+        let answer = ran(rt.alloc(), &[portion, "-lL", "-fpbm", "-s1"], &text);
+        assert!(rt; answer.status == 0 && answer.label.len() == 11 + 169 * 22);
+    }
     Ok(())
 }
 
-/// More than 16 times 7089 bytes are not read to the end.
+/// More than 16 times 7089 bytes are not read to the end, or more than 16 times 7089 characters of
+/// four bytes where the input may be a text.
 #[test]
 fn reads_no_more_than_symbols_hold(rt: HostRuntime) -> Result<(), QrError> {
     let mut long = Vec::new(rt.alloc());
     long.resize(16 * 7089 + 9, b'1')?;
-    let answer = ran(rt.alloc(), &["--split", "-f", "zpl"], &long);
+    let answer = ran(rt.alloc(), &["--split", "-cbytes", "-fzpl"], &long);
+    assert!(rt; answer.has_reported(1, TOO_LONG) && answer.unread == 8);
+    long.resize(16 * 4 * 7089 + 9, b'1')?;
+    let answer = ran(rt.alloc(), &["--split", "-fzpl"], &long);
     assert!(rt; answer.has_reported(1, TOO_LONG) && answer.unread == 8);
     Ok(())
 }

@@ -131,10 +131,10 @@ fn details_of_texts(rt: HostRuntime) -> Result<(), QrError> {
 }
 
 /// Each row has words, a character, how many of it are too many, and what is said. A Kanji takes 13
-/// bits after 16, of a Micro symbol after 7, and up to version 9 after 12; a Greek letter 8 after
-/// 32, of which 12 are the designator's. How much there is room for is in table 7 of ISO/IEC
-/// 18004:2006.
-static LENGTHS: [(&[&str], &str, usize, &str); 5] = [
+/// bits after 16, of a Micro symbol after 7, and up to version 9 after 12; a Greek or a Thai letter,
+/// which has three bytes in UTF-8, takes 8 after 32, of which 12 are the designator's. How much there
+/// is room for is in table 7 of ISO/IEC 18004:2006.
+static LENGTHS: [(&[&str], &str, usize, &str); 6] = [
     (
         &["-l", "H"],
         "倉",
@@ -156,6 +156,12 @@ static LENGTHS: [(&[&str], &str, usize, &str); 5] = [
     (
         &["-l", "L"],
         "α",
+        2953,
+        "23656 bits, and level L up to version 40 has room for 23648 bits; see --split",
+    ),
+    (
+        &["-l", "L"],
+        "ก",
         2953,
         "23656 bits, and level L up to version 40 has room for 23648 bits; see --split",
     ),

@@ -158,7 +158,7 @@ static WRONG_WORDS: [Wrong; 37] = [
     ),
 ];
 
-const HRI: &str = "with -c gs1, gs1-unchecked or link, for terminal, svg, eps and zpl";
+const HRI: &str = "with -c gs1, gs1-unchecked or link, for terminal, svg, eps, zpl and pdf";
 
 const NO_KANJI: &str = "with -c bytes";
 
@@ -267,7 +267,7 @@ static WRONG_VALUES: [Wrong; 55] = [
         HRI,
     ),
     (
-        &["--hri", "-c", "link", "-o", "a.pdf", "(10)A"],
+        &["--hri", "-c", "link", "-o", "a.pbm", "(10)A"],
         "invalid --hri: ",
         HRI,
     ),

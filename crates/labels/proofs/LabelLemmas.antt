@@ -8,7 +8,7 @@ use Rattle.programs.specs.Devices.{SourceState, SinkState, Writes, input, output
 use Rattle.programs.specs.Lines.{FirstLines, ReadsLines, ReadsLine, BeginsLine}
 use Rattle.programs.proofs.LineLemmas.{long_line, begins_more}
 use Rattle.programs.specs.declared.Fault.{Fault as FaultOf}
-use Rattle.qrcode_base.specs.declared.symbols.TheConstants.{LONGEST_DATA}
+use Rattle.single_label.specs.Contents.{most_bytes}
 use Rattle.qrcode_core.specs.declared.types.errors.QrError.TheVariants.{OutOfMemory}
 use Rattle.programs.proofs.DeviceLemmas.{Appends-append, Appends-none, Writes-stopped, Writes-next}
 use Rattle.picture_settings.specs.declared.draw_options.DrawOptions.{DrawOptions}
@@ -249,22 +249,22 @@ folder_breaks name n e f g a b adds ds h =
 
 -- ---- One line
 
--- it was read whole, or more of it than a symbol holds, and its rest
+-- it was read whole, or too much of it, and its rest
 pub left_out_short : (label : Label) (options : DrawOptions) (a b : Option (List ℕ)) (line : List ℕ) (stop : Stop) →
-    ReadsLine a b line → length line ≤ LONGEST_DATA + 1 → IsLineLeftOut label line stop → AreLabels label options a b (Err stop ∷ [])
+    ReadsLine (most_bytes label.content) a b line → length line ≤ most_bytes label.content + 1 → IsLineLeftOut label line stop → AreLabels label options a b (Err stop ∷ [])
 left_out_short label options a b line stop (inl h) short is = record { lines = line ∷ []; read = h.read; shown = (is, tt) }
 left_out_short label options a b line stop (inr h) short is = absurd (omega (arith, h.long, short))
 
-long_stop : (label : Label) (part line : List ℕ) (stop : Stop) → LONGEST_DATA < length part → LONGEST_DATA < length line →
+long_stop : (label : Label) (part line : List ℕ) (stop : Stop) → most_bytes label.content < length part → most_bytes label.content < length line →
     IsLabelStop label part stop → IsLabelStop label line stop
 long_stop label part line stop long longer (inl h) = inl (record { many = longer; too_long = h.too_long; is_too_long = h.is_too_long; stop_is = h.stop_is })
 long_stop label part line stop long longer (inr h) = absurd (omega (arith, long, h.short))
 
 pub left_out_long : (label : Label) (options : DrawOptions) (a b c : Option (List ℕ)) (part : List ℕ) (stop : Stop) →
-    ReadsLine a b part → LONGEST_DATA + 1 < length part → DropsThrough b c 10 → IsLineLeftOut label part stop → AreLabels label options a c (Err stop ∷ [])
+    ReadsLine (most_bytes label.content) a b part → most_bytes label.content + 1 < length part → DropsThrough b c 10 → IsLineLeftOut label part stop → AreLabels label options a c (Err stop ∷ [])
 left_out_long label options a b c part stop (inl h) long rest is = absurd (omega (arith, long, h.short))
 left_out_long label options a b c part stop (inr h) long rest is =
-    let whole = long_line a b c part h rest in record {
+    let whole = long_line (most_bytes label.content) a b c part h rest in record {
       lines = whole.0 ∷ [];
       read = whole.1;
       shown = (
@@ -278,17 +278,17 @@ left_out_long label options a b c part stop (inr h) long rest is =
     }
 
 -- reading failed in the rest of a line
-begins_long : (a b c : Option (List ℕ)) (part : List ℕ) → ReadsLine a b part → LONGEST_DATA + 1 < length part → BeginsLine b c → BeginsLine a c
-begins_long a b c part (inl h) long more = absurd (omega (arith, long, h.short))
-begins_long a b c part (inr h) long more = begins_more a b c part h.begins more
+begins_long : (most : ℕ) (a b c : Option (List ℕ)) (part : List ℕ) → ReadsLine most a b part → most + 1 < length part → BeginsLine b c → BeginsLine a c
+begins_long most a b c part (inl h) long more = absurd (omega (arith, long, h.short))
+begins_long most a b c part (inr h) long more = begins_more a b c part h.begins more
 
-pub stops_long : (label : Label) (a b c : Option (List ℕ)) (part : List ℕ) (fault : FaultOf) → ReadsLine a b part → LONGEST_DATA + 1 < length part →
+pub stops_long : (label : Label) (a b c : Option (List ℕ)) (part : List ℕ) (fault : FaultOf) → ReadsLine (most_bytes label.content) a b part → most_bytes label.content + 1 < length part →
     BeginsLine b c → (fault ≡ Read) ⊎ (fault ≡ Symbol OutOfMemory) → StopsNext label a c (Fault fault)
-stops_long label a b c part fault h long more (inl is) = rw is (begins_long a b c part h long more)
+stops_long label a b c part fault h long more (inl is) = rw is (begins_long (most_bytes label.content) a b c part h long more)
 stops_long label a b c part fault h long more (inr is) = rw is (λ other. absurd (other refl))
 
 -- a line has no label, and is not left out
-pub stops_at : (label : Label) (a b : Option (List ℕ)) (line : List ℕ) (stop : Stop) → ReadsLine a b line → IsLabelStop label line stop →
+pub stops_at : (label : Label) (a b : Option (List ℕ)) (line : List ℕ) (stop : Stop) → ReadsLine (most_bytes label.content) a b line → IsLabelStop label line stop →
     (label.keeps_going ≡ true → is_of_line stop ≡ false) → StopsNext label a b stop
 stops_at label a b line (Fault Read) read h k = absurd (no_device label line Read (inl refl) h)
 stops_at label a b line (Fault Write) read h k = absurd (no_device label line Write (inr refl) h)

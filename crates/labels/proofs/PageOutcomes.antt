@@ -9,7 +9,7 @@ use Rattle.qrcode_render.specs.Pdf.{PdfPage}
 use Rattle.qrcode_render.specs.PdfPagesWritten.{PdfWritten, after_page, next_page, pdf_end}
 use Rattle.picture_settings.specs.declared.bounds.TheConstants.{MAX_PDF}
 use Rattle.picture_settings.specs.declared.draw_options.DrawOptions.{DrawOptions}
-use Rattle.single_label.specs.{Pages.page_alone, Pages.page_of_symbol}
+use Rattle.single_label.specs.{Pages.page_alone, PageSymbols.page_shown}
 use Rattle.labels.specs.Documents.{IsNextPage, IsNoPage}
 use Rattle.labels.specs.Documents.{document}
 use Rattle.labels.specs.Lines.{Made, AreLabels, DrawsBefore, IsEnded, IsLinesOutcome, StopsNext, known_place}
@@ -166,7 +166,7 @@ no_label label options every n r s t title p waiting u v a b stop h k failure so
 
 -- the label of a page's symbol
 abbrev pub alone : Label → DrawOptions → PageSymbol → List ℕ
-alone label options page = page_alone (option_copied options.title) (page_of_symbol label options page.symbol)
+alone label options page = page_alone (option_copied options.title) (page_shown label options page)
 
 pub is_drawn : (label : Label) (options : DrawOptions) (made : Result PageSymbol Stop) → is_ok (made_as (alone label options) made) ≡ is_ok made
 is_drawn label options (Ok page) = refl
@@ -174,12 +174,12 @@ is_drawn label options (Err stop) = refl
 
 pub made_step : (label : Label) (options : DrawOptions) (p q : PdfWritten) (waiting rest : List ℕ) (u v w a b c : SinkState) (m first : ℕ)
     (made : Result PageSymbol Stop) →
-    IfOk made (λ page. IsNextPage v w (page_of_symbol label options page.symbol) p waiting q rest) → w.failed ≡ false → IfOk made (λ page. c ≡ b) →
+    IfOk made (λ page. IsNextPage v w (page_shown label options page) p waiting q rest) → w.failed ≡ false → IfOk made (λ page. c ≡ b) →
     IfErr made (λ stop. (w ≡ v) × ((q ≡ p) × (rest ≡ waiting)) × Reports b c (numbered_line (record { number = m; stop = stop }))) →
     (ds : List Made) → m ≡ length ds + first → so_far (option_copied options.title) p waiting u v a b first ds →
     so_far (option_copied options.title) q rest u w a c first (ds ++ made_as (alone label options) made ∷ [])
 made_step label options p q waiting rest u v w a b c m first (Ok page) next sound same out ds is h =
-    rw same (pages_step (option_copied options.title) p q waiting rest (page_of_symbol label options page.symbol) u v w a b m first
+    rw same (pages_step (option_copied options.title) p q waiting rest (page_shown label options page) u v w a b m first
     next.writes sound next.flushed next.next_is next.rest_is ds is h)
 made_step label options p q waiting rest u v w a b c m first (Err stop) next sound same out ds is h =
     rw (out.0, out.1.0, out.1.1) (pages_left_out (option_copied options.title) p waiting u v a b c m first stop out.2.silent out.2.said ds is h)
@@ -188,10 +188,10 @@ pub made_stops : (label : Label) (options : DrawOptions) (every : Bool) (n : ℕ
     (u v w a b c : SinkState) (made : Result PageSymbol Stop) (stop : Stop) →
     DrawsBefore label options every n r.left s.left (so_far_place (option_copied options.title) p waiting u v a b label.first) →
     AreLabels label options s.left t.left (made_as (alone label options) made ∷ []) → v.failed ≡ false → t.failed ≡ false → IsOk made →
-    IfOk made (λ page. c ≡ b) → IfOk made (λ page. IsNoPage v w (page_of_symbol label options page.symbol) p waiting stop) →
+    IfOk made (λ page. c ≡ b) → IfOk made (λ page. IsNoPage v w (page_shown label options page) p waiting stop) →
     IsLinesOutcome label options (input r t) (document (option_copied options.title) (output u w) label.first (output a c))
     (Err (record { number = n; stop = stop }))
 made_stops label options every n r s t p waiting u v w a b c (Ok page) stop h k sound read ok same why =
-    rw same (page_not_written label options every n r s t (option_copied options.title) p waiting (page_of_symbol label options page.symbol) u v w a b stop
+    rw same (page_not_written label options every n r s t (option_copied options.title) p waiting (page_shown label options page) u v w a b stop
     h k sound read why)
 made_stops label options every n r s t p waiting u v w a b c (Err e) stop h k sound read ok same why = absurd (grind (arith, ok))

@@ -9,7 +9,7 @@ use Rattle.programs.specs.declared.Fault.TheVariants.{Symbol, Read, Write}
 use Rattle.qrcode_core.specs.declared.types.errors.QrError.TheVariants.{OutOfMemory}
 use Rattle.picture_settings.specs.declared.draw_options.DrawOptions.{DrawOptions}
 use Rattle.label_words.specs.declared.command.Label.{Label}
-use Rattle.single_label.specs.declared.parts.TheConstants.{LONGEST_MESSAGE}
+use Rattle.single_label.specs.Parts.{most_together}
 use Rattle.single_label.specs.declared.stop.{Stop.Stop, Stop.TheVariants.Fault, Stop.TheVariants.Elements, Stop.TheVariants.NotAllowed, Stop.TheVariants.NoLink, Stop.TheVariants.Empty}
 use Rattle.single_label.specs.declared.stop.{Stop.TheVariants.NoMicroText, Stop.TheVariants.TooLong, Stop.TheVariants.TooManyParts, Stop.TheVariants.TooManyPages}
 use Rattle.labels.specs.{FileStates.FilesState, FileStates.AddsFiles, Folders.part_files, Folders.PutsSome}
@@ -57,7 +57,7 @@ parts_stopped name f g e ds i stop path within h k why = record {
 
 -- no file was written where there are no labels
 pub puts_none : (label : Label) (options : DrawOptions) (r s : SourceState) (f : FilesState) (name : Numbering) (path bytes : List ℕ) (stop : Stop) →
-    ReadsUpTo LONGEST_MESSAGE (input r s) bytes → IsMessageStop label bytes stop → s.failed ≡ false → f.failed ≡ false →
+    ReadsUpTo (most_together label.content) (input r s) bytes → IsMessageStop label bytes stop → s.failed ≡ false → f.failed ≡ false →
     IsPartsOutcome label options (input r s) f f name path (Err stop)
 puts_none label options r s f name path bytes (Fault Read) read is sound whole = absurd (no_device_message label bytes Read (inl refl) is)
 puts_none label options r s f name path bytes (Fault Write) read is sound whole = absurd (no_device_message label bytes Write (inr refl) is)
@@ -98,7 +98,7 @@ item_at vs i d within = grind (arith, common_steps)
 
 -- no file was written where memory ran out, or there are no labels
 pub puts_none_or : (label : Label) (options : DrawOptions) (r s : SourceState) (f : FilesState) (name : Numbering) (path bytes : List ℕ) (stop : Stop) →
-    ReadsUpTo LONGEST_MESSAGE (input r s) bytes → (stop ≡ Fault (Symbol OutOfMemory)) ⊎ IsMessageStop label bytes stop → s.failed ≡ false → f.failed ≡ false →
+    ReadsUpTo (most_together label.content) (input r s) bytes → (stop ≡ Fault (Symbol OutOfMemory)) ⊎ IsMessageStop label bytes stop → s.failed ≡ false → f.failed ≡ false →
     IsPartsOutcome label options (input r s) f f name path (Err stop)
 puts_none_or label options r s f name path bytes stop read (inl memory) sound whole =
     rw memory (record { puts = inl ((λ other. absurd (other refl)), adds_none f.files); read = grind (arith, sound); write = grind (arith, whole) })

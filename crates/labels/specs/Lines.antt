@@ -16,6 +16,7 @@ use Rattle.programs.specs.declared.Fault.TheVariants.{Symbol, Read, Write}
 use Rattle.qrcode_core.specs.declared.types.errors.QrError.{QrError}
 use Rattle.qrcode_core.specs.declared.types.errors.QrError.TheVariants.{OutOfMemory}
 use Rattle.picture_settings.specs.declared.draw_options.DrawOptions.{DrawOptions}
+use Rattle.single_label.specs.Contents.{most_bytes}
 use Rattle.single_label.specs.Labels.{ShowsLabel, IsLabelStop}
 use Rattle.label_words.specs.declared.command.Label.{Label}
 use Rattle.labels.specs.declared.stop.LineStop.{LineStop}
@@ -199,7 +200,7 @@ pub record TearsAt (label : Label) (options : DrawOptions) (number : ℕ) (input
 -- The line that was read has no label, for this reason.
 pub record StopsLine (label : Label) (stop : Stop) (before after : Option (List ℕ)) : Type 0 where
   pub line : List ℕ
-  pub read : ReadsLine before after line
+  pub read : ReadsLine (most_bytes label.content) before after line
   pub stopped : IsLabelStop label line stop
   pub not_left_out : label.keeps_going ≡ true → is_of_line stop ≡ false
 

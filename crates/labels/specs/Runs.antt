@@ -8,7 +8,6 @@ use Rattle.programs.specs.Devices.{Input, Output, Writes, ReadsAll, ReadsUpTo, R
 use Rattle.programs.specs.Outcome.{WritesDrawing, BeginsDrawing}
 use Rattle.programs.specs.Reasons.{device_report, device_status}
 use Rattle.programs.specs.declared.Fault.TheVariants.{Symbol, Read, Write}
-use Rattle.qrcode_base.specs.declared.symbols.TheConstants.{LONGEST_DATA}
 use Rattle.qrcode_core.specs.declared.types.errors.QrError.TheVariants.{OutOfMemory}
 use Rattle.picture_settings.specs.DrawOptions.{IsMadeOf}
 use Rattle.picture_settings.specs.Settings.{invalid_setting}
@@ -25,14 +24,14 @@ use Rattle.labels.specs.Lines.{IsLinesOutcome, Made, Place, stream}
 use Rattle.label_words.specs.Misuses.{wrong_line}
 use Rattle.label_words.specs.Names.{Numbering, numbered}
 use Rattle.single_label.specs.Pages.{are_pages}
-use Rattle.single_label.specs.Parts.{ShowMessage, ShowsMessage, IsMessageStop}
+use Rattle.single_label.specs.Contents.{most_bytes}
+use Rattle.single_label.specs.Parts.{ShowMessage, ShowsMessage, IsMessageStop, most_together}
 use Rattle.label_words.specs.Numberings.{numbering_of}
 use Rattle.label_words.specs.Settings.{setting_wrong}
 use Rattle.labels.specs.Sizes.{size_report}
 use Rattle.labels.specs.Stops.{Devices, stop_report, end_report, stop_status}
 use Rattle.label_words.specs.Words.{Values, Wrong, value_said}
 use Rattle.label_words.specs.declared.command.Label.{Label}
-use Rattle.single_label.specs.declared.parts.TheConstants.{LONGEST_MESSAGE}
 use Rattle.labels.specs.declared.runs.TheConstants.{LEFT_OUT}
 use Rattle.label_words.specs.declared.command.Portion.{Portion}
 use Rattle.label_words.specs.declared.command.Portion.TheVariants.{Whole, Lines, Files as FilesOf, Split, Parts}
@@ -54,7 +53,7 @@ one_of label options = record {
   shows = ShowsLabel label options;
   details = AreDetailsBeside label (λ other. ShowsLabel other options);
   stops = IsLabelStop label;
-  most = LONGEST_DATA;
+  most = most_bytes label.content;
 }
 
 -- The labels of the symbols that carry the input together, one after the other.
@@ -63,7 +62,7 @@ message_of label options = record {
   shows = ShowsMessage label options;
   details = AreDetailsBeside label (λ other. ShowsMessage other options);
   stops = IsMessageStop label;
-  most = LONGEST_MESSAGE;
+  most = most_together label.content;
 }
 
 -- There is no drawing of the bytes that were read, for this reason.
@@ -165,7 +164,7 @@ pub record ServesParts (label : Label) (options : DrawOptions) (input : Input) (
   pub outcome : Made
   pub path : List ℕ
   pub is_outcome : IsPartsOutcome label options input old new name path outcome
-  pub within : ReadsWithin (LONGEST_MESSAGE + 1) input
+  pub within : ReadsWithin (most_together label.content + 1) input
   pub status_is : status ≡ label_status (devices_in label input path new.reason) outcome
   pub reports : Writes errors (label_report (devices_in label input path new.reason) outcome)
 

@@ -83,7 +83,7 @@ split_piece splits = if splits then codes "; see --split" else []
 abbrev pub rest_piece : Option EcLevel → Bool → List ℕ
 rest_piece fits splits = fits_piece fits ++ split_piece splits
 
--- More bytes than one label takes.
+-- More bytes than a symbol holds.
 abbrev pub many_text : Bool → List ℕ
 many_text splits = codes "data too long: more than 7089 bytes" ++ split_piece splits
 
@@ -113,9 +113,13 @@ bits_line name long found =
 
 unfoldable pub long_line : List ℕ → TooLongOf → List ℕ
 long_line name long =
-    if nat_lt LONGEST_DATA long.length
-    then line_of name (many_text long.can_be_split ∷ [])
-    else elim long.text [ Some found ↦ bits_line name long found | None ↦ room_line name long ]
+    elim long.text [
+      | Some found ↦ bits_line name long found
+      | None ↦
+          if nat_lt LONGEST_DATA long.length
+          then line_of name (many_text long.can_be_split ∷ [])
+          else room_line name long
+    ]
 
 -- The line that says why there is no label.
 unfoldable pub stop_line : List ℕ → Stop → List ℕ

@@ -13,7 +13,8 @@ ghost use Rattle.qrcode_render.specs.PdfPagesWritten.{after_page, next_page, pdf
 ghost use Rattle.picture_settings.specs.declared.bounds.TheConstants.{MAX_PDF};
 ghost use Rattle.labels.specs.Documents.{IsNextPage, IsNoPage, IsWrittenSoFar, document};
 ghost use Rattle.labels.specs.Lines.{IsLinesOutcome};
-ghost use Rattle.single_label.specs.Pages.{are_pages, page_of_symbol};
+ghost use Rattle.single_label.specs.Pages.{are_pages};
+ghost use Rattle.single_label.specs.PageSymbols.{page_shown};
 ghost use Rattle.labels.specs.Reports.{Reports};
 ghost use Rattle.labels.specs.Stops.{numbered_line};
 ghost use Rattle.single_label.specs.declared.stop.Stop.TheVariants.{Fault as FaultStop};
@@ -26,7 +27,7 @@ use label_words::Label;
 use programs::{Fault, Sink, Source, write_all};
 use qrcode_core::types::QrError;
 use qrcode_render::{DrawOptions, PdfError, PdfPages};
-use single_label::{PageSymbol, Stop, page_turned};
+use single_label::{PageSymbol, Stop, page_drawn};
 use std::alloc::{AllocError, Global};
 
 /// A document that is written page by page.
@@ -57,14 +58,14 @@ fn add_page(
     begun: &mut Document,
 ) -> Result<(), Stop>
     ensures page { OnOk result (begun.new.waiting.items ≡ begun.old.waiting.items
-        ++ next_page begun.old.pages (page_of_symbol label.now options.now page.now.symbol)) }
+        ++ next_page begun.old.pages (page_shown label.now options.now page.now)) }
     ensures after { OnOk result (begun.new.pages
-        ≡ after_page begun.old.pages (page_of_symbol label.now options.now page.now.symbol)) }
+        ≡ after_page begun.old.pages (page_shown label.now options.now page.now)) }
     ensures refusal { IfErr result (λ stop. (stop ≡ FaultStop (SymbolFault OutOfMemory))
         ⊎ ((stop ≡ TooManyPages) × (MAX_PDF < (after_page begun.old.pages
-        (page_of_symbol label.now options.now page.now.symbol)).size))) }
+        (page_shown label.now options.now page.now)).size))) }
 {
-    match page_turned(alloc, &page.symbol, label.turn, options, &mut begun.pages) {
+    match page_drawn(alloc, label, options, page, &mut begun.pages) {
         Ok(bytes) => Ok(begun.waiting.extend_from_slice(&bytes)?),
         Err(PdfError::TooLong) => Err(Stop::TooManyPages),
         Err(PdfError::OutOfMemory) => Err(Stop::Fault(Fault::Symbol(QrError::OutOfMemory))),
@@ -84,10 +85,10 @@ fn put_page<W: Sink>(
     requires { IsFalse (W.state writer.old).failed }
     ensures sound { OnOk result (IsFalse (W.state writer.new).failed) }
     ensures page { OnOk result (IsNextPage (W.state writer.old) (W.state writer.new)
-        (page_of_symbol label.now options.now page.now.symbol)
+        (page_shown label.now options.now page.now)
         begun.old.pages begun.old.waiting.items begun.new.pages begun.new.waiting.items) }
     ensures broken { IfErr result (IsNoPage (W.state writer.old) (W.state writer.new)
-        (page_of_symbol label.now options.now page.now.symbol) begun.old.pages
+        (page_shown label.now options.now page.now) begun.old.pages
         begun.old.waiting.items) }
 {
     match add_page(alloc, label, options, page, begun) {
@@ -145,7 +146,7 @@ fn write_page<W: Sink, E: Sink>(
     ensures drawn { IfOk result (λ is_drawn. is_drawn ≡ is_ok made) }
     ensures sound { OnOk result (IsFalse (W.state writer.new).failed) }
     ensures page { OnOk result (IfOk made (λ page. IsNextPage (W.state writer.old)
-        (W.state writer.new) (page_of_symbol label.now options.now page.symbol) begun.old.pages
+        (W.state writer.new) (page_shown label.now options.now page) begun.old.pages
         begun.old.waiting.items begun.new.pages begun.new.waiting.items)) }
     ensures same { IfOk made (λ page. E.state errors.new ≡ E.state errors.old) }
     ensures left_out { IfErr made (λ stop. (W.state writer.new ≡ W.state writer.old)
@@ -155,7 +156,7 @@ fn write_page<W: Sink, E: Sink>(
         (numbered_line (record { number = number; stop = stop }))) }
     ensures broken { IfErr result (λ at. (at.number ≡ number) × IsOk made
         × IfOk made (λ page. IsNoPage (W.state writer.old) (W.state writer.new)
-        (page_of_symbol label.now options.now page.symbol) begun.old.pages begun.old.waiting.items
+        (page_shown label.now options.now page) begun.old.pages begun.old.waiting.items
         at.stop)) }
 {
     match made {

@@ -16,10 +16,9 @@ use gs1::{CheckError, Gs1Error};
 use gs1_links::LinkError;
 use label_words::Label;
 use programs::{Fault, Sink, Source, read_line, skip_line, write_all};
-use qrcode_base::symbols::LONGEST_DATA;
 use qrcode_core::types::QrError;
 use qrcode_render::DrawOptions;
-use single_label::{Shown, Stop, label_bytes};
+use single_label::{Shown, Stop, label_bytes, most_bytes};
 use std::alloc::Global;
 
 /// What comes of a line: its label, or the reason why it has none.
@@ -60,13 +59,14 @@ pub fn next_made<S: Shown, R: Source>(
         (StopsNext label.now (R.state reader.old).left (R.state reader.new).left) }
     ensures failure { IsErrOf result (FaultStop Read) ↔ IsTrue (R.state reader.new).failed }
 {
-    if !read_line(reader, line)? {
+    let most = most_bytes(label.content);
+    if !read_line(reader, most, line)? {
         return Ok(None);
     }
     match label_bytes(alloc, label, options, line) {
         Ok(drawing) => Ok(Some(Ok(drawing))),
         Err(stop) if label.keeps_going && is_of_line(stop) => {
-            if line.len() > LONGEST_DATA + 1 {
+            if line.len() > most + 1 {
                 skip_line(reader)?;
             }
             Ok(Some(Err(stop)))

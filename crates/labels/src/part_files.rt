@@ -11,7 +11,7 @@ ghost use Rattle.labels.specs.Stop.{made_of};
 ghost use Rattle.label_words.specs.Names.{numbered};
 ghost use Rattle.label_words.specs.Numberings.{numbering_of};
 ghost use Rattle.labels.specs.Runs.{IsPartsOutcome};
-ghost use Rattle.single_label.specs.declared.parts.TheConstants.{LONGEST_MESSAGE};
+ghost use Rattle.single_label.specs.Parts.{most_together};
 ghost use Rattle.single_label.specs.declared.stop.Stop.TheVariants.{Fault as FaultStop};
 
 use crate::files::Files;
@@ -20,7 +20,7 @@ use label_words::{Label, Numbering, write_numbered};
 use programs::{Fault, Source, read_up_to};
 use qrcode_core::types::QrError;
 use qrcode_render::DrawOptions;
-use single_label::{LONGEST_MESSAGE, Stop, details_message, message_labels};
+use single_label::{Stop, details_message, message_labels, most_together};
 use std::alloc::Global;
 
 /// Writes a drawing into the file of this number. It fails if the file could not be written, whose
@@ -79,7 +79,7 @@ fn put_parts<F: Files>(
 
 /// Reads to the end, and writes the label of each symbol that carries a part of all bytes into a
 /// file of its own, whose name has its number, counted from 1. It reads at most one byte more than
-/// `LONGEST_MESSAGE`. `path` is the name of the file that could not be written.
+/// `most_together`. `path` is the name of the file that could not be written.
 pub fn put_message<R: Source, F: Files>(
     alloc: Global,
     label: &Label,
@@ -94,10 +94,10 @@ pub fn put_message<R: Source, F: Files>(
     ensures outcome { IsPartsOutcome label.now options.now
         (input (R.state reader.old) (R.state reader.new)) (F.state files.old) (F.state files.new)
         (numbering_of name.now) (string_bytes path.new) (made_of result) }
-    ensures within { ReadsWithin (LONGEST_MESSAGE + 1)
+    ensures within { ReadsWithin (most_together label.now.content + 1)
         (input (R.state reader.old) (R.state reader.new)) }
 {
-    let bytes = read_up_to(alloc, LONGEST_MESSAGE, reader)?;
+    let bytes = read_up_to(alloc, most_together(label.content), reader)?;
     let drawings = match message_labels(alloc, label, options, &bytes) {
         Ok(drawings) => drawings,
         Err(stop) => return Err(stop),

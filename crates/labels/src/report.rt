@@ -225,11 +225,11 @@ fn write_too_long<E: Sink>(errors: &mut E, name: &str, long: TooLong) -> Result<
     requires { IsFalse (E.state errors.old).failed }
     ensures { Writes (output (E.state errors.old) (E.state errors.new)) (long_line name.now long) }
 {
-    if long.length > LONGEST_DATA {
-        return write_line(errors, name, &[many_text(long.can_be_split)]);
-    }
     match long.text {
         Some(found) => write_bits(errors, name, long, found),
+        None if long.length > LONGEST_DATA => {
+            write_line(errors, name, &[many_text(long.can_be_split)])
+        }
         None => write_room(errors, name, long),
     }
 }

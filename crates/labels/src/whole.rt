@@ -1,13 +1,13 @@
 //! Labels of the whole input: one, or those of the symbols that carry it together.
 ghost use Rattle.std.specs.Prelude.{◌≡◌, ◌+◌, IsFalse};
-ghost use Rattle.qrcode_base.specs.declared.symbols.TheConstants.{LONGEST_DATA};
 ghost use Rattle.programs.specs.Devices.{input, output, ReadsWithin, Writes};
 ghost use Rattle.labels.specs.Stop.{made_of};
 ghost use Rattle.label_words.specs.Numberings.{numbering_of};
 ghost use Rattle.labels.specs.Devices.{devices_of};
 ghost use Rattle.labels.specs.Runs.{one_of, message_of, IsLabelOutcome, ServesLabel, ServesParts};
 ghost use Rattle.labels.specs.Runs.{label_status, label_report};
-ghost use Rattle.single_label.specs.declared.parts.TheConstants.{LONGEST_MESSAGE};
+ghost use Rattle.single_label.specs.Contents.{most_bytes};
+ghost use Rattle.single_label.specs.Parts.{most_together};
 
 use crate::files::Files;
 use crate::lines::Made;
@@ -15,15 +15,15 @@ use crate::part_files::put_message;
 use crate::report::report_stop;
 use crate::stop::Devices;
 use label_words::{Label, Numbering};
-use programs::{Sink, Source, read_all, read_up_to, write_all};
+use programs::{Sink, Source, read_up_to, write_all};
 use qrcode_render::DrawOptions;
 use single_label::{
-    LONGEST_MESSAGE, Stop, details_bytes, details_message, label_bytes, message_text,
+    Stop, details_bytes, details_message, label_bytes, message_text, most_bytes, most_together,
 };
 use std::alloc::Global;
 
-/// Reads to the end, writes the label of all bytes that were read, and flushes. Of more than 7089
-/// bytes, which are too long, it reads 7090.
+/// Reads to the end, writes the label of all bytes that were read, and flushes. It reads at most one
+/// byte more than `most_bytes`.
 fn draw_label<R: Source, W: Sink>(
     alloc: Global,
     label: &Label,
@@ -36,10 +36,10 @@ fn draw_label<R: Source, W: Sink>(
     ensures outcome { IsLabelOutcome (one_of label.now options.now)
         (input (R.state reader.old) (R.state reader.new))
         (output (W.state writer.old) (W.state writer.new)) (made_of result) }
-    ensures within { ReadsWithin (LONGEST_DATA + 1)
+    ensures within { ReadsWithin (most_bytes label.now.content + 1)
         (input (R.state reader.old) (R.state reader.new)) }
 {
-    let bytes = read_all(alloc, reader)?;
+    let bytes = read_up_to(alloc, most_bytes(label.content), reader)?;
     let drawing = match label_bytes::<Vec<u8>>(alloc, label, options, &bytes) {
         Ok(drawing) => drawing,
         Err(stop) => return Err(stop),
@@ -55,7 +55,7 @@ fn draw_label<R: Source, W: Sink>(
 }
 
 /// Reads to the end, writes the labels of the symbols that carry all bytes together, one after the
-/// other, and flushes. It reads at most one byte more than `LONGEST_MESSAGE`.
+/// other, and flushes. It reads at most one byte more than `most_together`.
 fn draw_message<R: Source, W: Sink>(
     alloc: Global,
     label: &Label,
@@ -68,10 +68,10 @@ fn draw_message<R: Source, W: Sink>(
     ensures outcome { IsLabelOutcome (message_of label.now options.now)
         (input (R.state reader.old) (R.state reader.new))
         (output (W.state writer.old) (W.state writer.new)) (made_of result) }
-    ensures within { ReadsWithin (LONGEST_MESSAGE + 1)
+    ensures within { ReadsWithin (most_together label.now.content + 1)
         (input (R.state reader.old) (R.state reader.new)) }
 {
-    let bytes = read_up_to(alloc, LONGEST_MESSAGE, reader)?;
+    let bytes = read_up_to(alloc, most_together(label.content), reader)?;
     let drawing = match message_text(alloc, label, options, &bytes) {
         Ok(drawing) => drawing,
         Err(stop) => return Err(stop),

@@ -50,11 +50,10 @@ has_title _ = false
 
 -- The picture has a text below it.
 abbrev pub has_caption : Format → Bool
-has_caption Terminal = true
-has_caption Svg = true
-has_caption Eps = true
-has_caption Zpl = true
-has_caption _ = false
+has_caption Png = false
+has_caption Pbm = false
+has_caption EscPos = false
+has_caption _ = true
 
 -- The picture has colours.
 abbrev pub has_colors : Format → Bool

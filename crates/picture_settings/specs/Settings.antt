@@ -50,11 +50,21 @@ has_room _ _ = true
 abbrev pub is_printed : ℕ → Bool
 is_printed c = nat_le 32 c && nat_le c 126
 
--- A text below a picture that may be given: there is one, its characters are printed, and the
--- format has one.
+abbrev pub is_newline : ℕ → Bool
+is_newline c = c == 10
+
+-- A character of a text in lines, which newlines end.
+abbrev pub is_in_lines : ℕ → Bool
+is_in_lines c = is_printed c || is_newline c
+
+-- A text in lines, of which some character is printed.
+abbrev pub is_caption : List ℕ → Bool
+is_caption text = not (list_all is_newline text) && list_all is_in_lines text
+
+-- A text below a picture that may be given: it is one, and the format has one.
 abbrev pub allows_caption : (has : Bool) → Option (List ℕ) → Bool
 allows_caption has None = true
-allows_caption has (Some text) = has && (not (length text == 0) && list_all is_printed text)
+allows_caption has (Some text) = has && is_caption text
 
 -- A position that may be given: it is within its bounds, and the format has one.
 abbrev pub allows_position : (has : Bool) → Option (ℕ × ℕ) → Bool

@@ -15,11 +15,15 @@ pub const MAX_MODULES: usize = 177;
 /// The greatest number of columns and of rows with the quiet zone.
 pub const MAX_COLUMNS: usize = MAX_MODULES + 2 * MAX_QUIET;
 
-/// The number of rows of modules that the text below a picture takes.
-pub const CAPTION_ROWS: usize = 4;
+/// The greatest number of lines of the text below a picture: memory holds no more of them.
+pub const MAX_LINES: usize = 1 << 30;
+
+/// The greatest size of the characters of that text in hundredths of a module: 2 mm, where a module
+/// has the least width.
+pub const MAX_LETTERS: usize = 4000;
 
 /// The greatest number of rows with the quiet zone and the text below.
-pub const MAX_HIGH: usize = MAX_COLUMNS + CAPTION_ROWS;
+pub const MAX_HIGH: usize = MAX_COLUMNS + (MAX_LINES + 1) * (MAX_LETTERS / 100);
 
 /// The greatest width and height of a picture in pixels.
 pub const MAX_PIXELS: usize = MAX_COLUMNS * MAX_SCALE;

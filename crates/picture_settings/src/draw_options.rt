@@ -1,10 +1,10 @@
 //! The options of a picture in a format, made of settings and tested once.
-ghost use Rattle.std.specs.Prelude.{◌≡◌, ◌≤◌, ◌&&◌};
+ghost use Rattle.std.specs.Prelude.{◌≡◌, ◌≤◌, ◌&&◌, ◌==◌};
 ghost use Rattle.std.specs.Prelude.{true, false, Some, None, OnOk, OnErr, IfErr};
 ghost use Rattle.std.specs.List.{list_all};
 ghost use Rattle.std.specs.Option.{ForSome, option_copied};
 ghost use Rattle.picture_settings.specs.Settings.{allows, allows_title, allows_position};
-ghost use Rattle.picture_settings.specs.Settings.{allows_caption, is_printed};
+ghost use Rattle.picture_settings.specs.Settings.{allows_caption, is_caption, is_in_lines, is_newline};
 ghost use Rattle.picture_settings.specs.Settings.{first_failed, has_room, printer_tests};
 ghost use Rattle.picture_settings.specs.Settings.{allows_colors, color_tests};
 ghost use Rattle.picture_settings.specs.Formats.{has_caption, has_copies, has_feed, has_title};
@@ -220,22 +220,37 @@ fn has_room(format: Format, title: &str) -> bool
     }
 }
 
-/// Whether a text below the picture may be given: the format has one, there is a character, and
-/// all characters are printed.
+/// Whether a text below the picture may be given: the format has one, and it has a character that
+/// is printed, and none but these and newlines.
 fn allows_caption(format: Format, caption: Option<&str>) -> bool
     ensures { result ≡ allows_caption (has_caption format) (option_copied caption.entry) }
 {
     match caption {
-        Some(text) => format.has_caption() && !text.is_empty() && all_printed(text.as_bytes()),
+        Some(text) => format.has_caption() && is_caption(text.as_bytes()),
         None => true,
     }
 }
 
-/// Whether all characters are printed.
-fn all_printed(text: &[u8]) -> bool
-    ensures { result ≡ list_all is_printed text.now }
+/// Whether there is a character that is printed, and none but these and newlines.
+fn is_caption(text: &[u8]) -> bool
+    ensures { result ≡ is_caption text.now }
 {
-    text.iter().all(|c| matches!(*c, b' '..=b'~'))
+    !are_newlines(text) && are_in_lines(text)
+}
+
+/// Whether all characters are printed, or newlines.
+fn are_in_lines(text: &[u8]) -> bool
+    ensures { result ≡ list_all is_in_lines text.now }
+{
+    text.iter()
+        .all(|c| matches!(*c, b' '..=b'~') || *c == b'\n')
+}
+
+/// Whether all characters are newlines.
+fn are_newlines(text: &[u8]) -> bool
+    ensures { result ≡ list_all is_newline text.now }
+{
+    text.iter().all(|c| *c == b'\n')
 }
 
 /// Whether a position may be given: it is within its bounds, and the format has one.

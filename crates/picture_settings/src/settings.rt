@@ -23,8 +23,9 @@ pub struct Settings<'a> {
     /// at most 1,000,000 bytes; and of EPS, if it takes at most 244 characters there, where a
     /// character that is none of ASCII takes 8 to 16.
     pub title: Option<&'a str>,
-    /// The text below the picture, of at least one character and only such of ASCII as are
-    /// printed: of `Terminal`, SVG, EPS and ZPL.
+    /// The text below the picture, of characters of ASCII that are printed, at least one, and of
+    /// newlines, which end its lines: of `Terminal`, SVG, EPS and ZPL. If all of it fits, it is
+    /// written on one line, else in at least one line for each of its own.
     pub caption: Option<&'a str>,
     /// The position of the upper left corner on the label in dots, each 0 to 18,000: of ZPL.
     pub at: Option<(usize, usize)>,

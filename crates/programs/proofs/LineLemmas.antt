@@ -8,7 +8,6 @@ use Rattle.std.proofs.lemmas.Grind.{common_steps}
 use Rattle.std.specs.Io.BufRead.{first_line, first_piece, take_through, drop_through, strip_last, ends_with_byte, DropsThrough}
 use Rattle.std.specs.Io.KnownBytes.{Consumes, IsAtEnd}
 use Rattle.programs.specs.Lines.{ReadsLines, ReadsPart, ReadsTooMuch, BeginsLine}
-use Rattle.qrcode_base.specs.declared.symbols.TheConstants.{LONGEST_DATA}
 use Rattle.programs.proofs.DeviceLemmas.{Consumes-append}
 
 abbrev InLine : List ℕ → Type 0
@@ -28,8 +27,8 @@ some part rest e = omega (arith, ap length e, length-append part (10 ∷ rest))
 ends : (part : List ℕ) → ends_with_byte 10 (part ++ 10 ∷ []) ≡ true
 ends part = grind (arith, common_steps)
 
-some_long : (part rest : List ℕ) → length part ≡ LONGEST_DATA + 2 → part ++ rest ≢ []
-some_long part rest long e = omega (arith, ap length e, length-append part rest, long)
+some_long : (most : ℕ) (part rest : List ℕ) → length part ≡ most + 2 → part ++ rest ≢ []
+some_long most part rest long e = omega (arith, ap length e, length-append part rest, long)
 
 pub line_of : (part rest : List ℕ) → InLine part → first_line (part ++ 10 ∷ rest) ≡ strip_last 13 part
 line_of part rest is = grind (arith, common_steps, through part rest is, ends part)
@@ -116,17 +115,17 @@ line_longer part rest is =
     rw (take_through-append 10 part rest is) (piece_longer part (take_through 10 rest) is) in
     grind (arith, piece, at_least 13 (first_piece 10 (part ++ rest)))
 
--- a line of which more was read than a symbol holds, and its rest
-pub long_line : (a b c : Option (List ℕ)) (part : List ℕ) → ReadsTooMuch a b part → DropsThrough b c 10 →
-    (line : List ℕ) × ReadsLines a c (line ∷ []) × (LONGEST_DATA < length line)
-long_line None b c part h k = (part, tt, omega (arith, h.long))
-long_line (Some xs) None c part h k = absurd h.begins.read
-long_line (Some xs) (Some ys) None part h k = absurd (grind arith)
-long_line (Some xs) (Some ys) (Some zs) part h k =
+-- a line of which too much was read, and its rest
+pub long_line : (most : ℕ) (a b c : Option (List ℕ)) (part : List ℕ) → ReadsTooMuch most a b part → DropsThrough b c 10 →
+    (line : List ℕ) × ReadsLines a c (line ∷ []) × (most < length line)
+long_line most None b c part h k = (part, tt, omega (arith, h.long))
+long_line most (Some xs) None c part h k = absurd h.begins.read
+long_line most (Some xs) (Some ys) None part h k = absurd (grind arith)
+long_line most (Some xs) (Some ys) (Some zs) part h k =
     let all : xs ≡ part ++ ys = h.begins.read in
     let left : zs ≡ drop_through 10 ys = grind (arith, k) in (
       first_line xs,
-      rw (all, left) (some_long part ys h.long, refl, drop_through-append 10 part ys h.begins.in_line),
+      rw (all, left) (some_long most part ys h.long, refl, drop_through-append 10 part ys h.begins.in_line),
       rw all (omega (arith, h.long, line_longer part ys h.begins.in_line)),
     )
 

@@ -2,7 +2,6 @@
 use Rattle.std.specs.Prelude.{◌≡◌, ◌≢◌, ◌⊎◌, ◌+◌, ◌≤◌, ℕ, ⊤, Option, None, Some, List, [], ◌∷◌, length, All}
 use Rattle.std.specs.Io.BufRead.{first_line, drop_through}
 use Rattle.std.specs.Io.KnownBytes.{Consumes}
-use Rattle.qrcode_base.specs.declared.symbols.TheConstants.{LONGEST_DATA}
 
 -- The bytes begin with these lines, and `rest` comes after them. A line ends with its newline, of
 -- which a carriage return before it is a part, or where the bytes end.
@@ -22,19 +21,20 @@ pub record ReadsPart (before after : Option (List ℕ)) (part : List ℕ) : Type
   pub read : Consumes before after part
   pub in_line : All (λ byte. byte ≢ 10) part
 
--- More was read of one line than a symbol holds, whatever follows.
-pub record ReadsTooMuch (before after : Option (List ℕ)) (part : List ℕ) : Type 0 where
+-- Two bytes more than `most` were read of one line, whatever follows.
+pub record ReadsTooMuch (most : ℕ) (before after : Option (List ℕ)) (part : List ℕ) : Type 0 where
   pub begins : ReadsPart before after part
-  pub long : length part ≡ LONGEST_DATA + 2
+  pub long : length part ≡ most + 2
 
--- This line was read, which is shorter.
-pub record ReadsShortLine (before after : Option (List ℕ)) (line : List ℕ) : Type 0 where
+-- This line was read, which has at most one byte more.
+pub record ReadsShortLine (most : ℕ) (before after : Option (List ℕ)) (line : List ℕ) : Type 0 where
   pub read : ReadsLines before after (line ∷ [])
-  pub short : length line ≤ LONGEST_DATA + 1
+  pub short : length line ≤ most + 1
 
--- This line was read, or two bytes more of it than a symbol holds, whatever follows.
-abbrev pub ReadsLine : Option (List ℕ) → Option (List ℕ) → List ℕ → Type 0
-ReadsLine before after line = ReadsShortLine before after line ⊎ ReadsTooMuch before after line
+-- This line was read, or two bytes more of it than `most`, whatever follows.
+abbrev pub ReadsLine : (most : ℕ) → Option (List ℕ) → Option (List ℕ) → List ℕ → Type 0
+ReadsLine most before after line =
+    ReadsShortLine most before after line ⊎ ReadsTooMuch most before after line
 
 -- A part of one line was read, or nothing.
 pub record BeginsLine (before after : Option (List ℕ)) : Type 0 where

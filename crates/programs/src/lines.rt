@@ -1,26 +1,23 @@
 //! Lines of an input, one after the other.
-ghost use Rattle.std.specs.Prelude.{◌≡◌, ◌↔◌, ◌⊎◌, [], Ok, true, false};
+ghost use Rattle.std.specs.Prelude.{◌≡◌, ◌<◌, ◌^◌, ◌↔◌, ◌⊎◌, [], Ok, true, false};
 ghost use Rattle.std.specs.Prelude.{IsTrue, IsFalse, IfErr, OnOk, OnErr, IsErrOf};
 ghost use Rattle.std.specs.Io.BufRead.{strip_last, DropsThrough};
 ghost use Rattle.std.specs.Io.KnownBytes.{IsAtEnd};
 ghost use Rattle.programs.specs.Lines.{ReadsLine, ReadsLines, BeginsLine};
 
 use crate::{Fault, Source};
-use qrcode_base::symbols::LONGEST_DATA;
 use qrcode_base::types::QrError;
 use std::alloc::AllocError;
 
-/// A number of bytes of a line that no symbol holds, a carriage return at the end included.
-const TOO_LONG: usize = LONGEST_DATA + 2;
-
 /// Reads the next line into `line`, in place of what is there, without its newline and a carriage
 /// return before this, and returns `true`. At the end of the input it returns `false`. Of a line of
-/// more than 7090 bytes it reads 7091. It fails with `Read` if the reader failed, and with
-/// `OutOfMemory`.
-pub fn read_line<R: Source>(reader: &mut R, line: &mut Vec<u8>) -> Result<bool, Fault>
-    requires { IsFalse (R.state reader.old).failed }
+/// more than `most + 1` bytes it reads `most + 2`, which are too many, a carriage return at the end
+/// included. It fails with `Read` if the reader failed, and with `OutOfMemory`.
+pub fn read_line<R: Source>(reader: &mut R, most: usize, line: &mut Vec<u8>) -> Result<bool, Fault>
+    requires sound { IsFalse (R.state reader.old).failed }
+    requires bound { most < 2 ^ 32 }
     ensures line { result ≡ Ok true →
-        ReadsLine (R.state reader.old).left (R.state reader.new).left line.new.items }
+        ReadsLine most (R.state reader.old).left (R.state reader.new).left line.new.items }
     ensures none { result ≡ Ok false →
         ReadsLines (R.state reader.old).left (R.state reader.new).left []
         × IsAtEnd (R.state reader.new).left }
@@ -31,7 +28,8 @@ pub fn read_line<R: Source>(reader: &mut R, line: &mut Vec<u8>) -> Result<bool, 
 {
     line.clear();
     let mut byte = [0u8; 1];
-    'reading: while line.len() < TOO_LONG {
+    let too_many = most + 2;
+    'reading: while line.len() < too_many {
         match reader.pull(&mut byte) {
             None => return Err(Fault::Read),
             Some(0) => return Ok(!line.is_empty()),

@@ -9,7 +9,7 @@ use Rattle.std.proofs.lemmas.Grind.{common_steps}
 use Rattle.std.proofs.Common.{inl, inr}
 use Rattle.std.proofs.lemmas.Grind.{flat_map-append}
 use Rattle.std.proofs.lemmas.List.{take_more}
-use Rattle.qrcode_render.specs.Zpl.{field_byte, field_data, hex_digit, hex_pair, field_hex_value, joined_digits, read_digits, read_field_byte}
+use Rattle.qrcode_render.specs.Zpl.{block_byte, block_data, field_byte, field_data, hex_digit, hex_pair, field_hex_value, joined_digits, read_digits, read_field_byte}
 use Rattle.qrcode_render.specs.Zpl.{read_field_bytes, FieldsAreRead}
 
 pub data_none : field_data [] ≡ []
@@ -25,6 +25,20 @@ data_more bytes i below =
     ∙ ap (λ l. flat_map field_byte (take i bytes) ++ l) (append-nil (field_byte (get_or bytes i 0)))
 
 pub ruleset field_texts = (data_none, data_more)
+
+pub block_none : block_data [] ≡ []
+unfolding block_data
+block_none = refl
+
+-- one byte more in a block
+pub block_more : (bytes : List ℕ) (i : ℕ) → i < length bytes → block_data (take (i + 1) bytes) ≡ block_data (take i bytes) ++ block_byte (get_or bytes i 0)
+unfolding block_data
+block_more bytes i below =
+    ap (flat_map block_byte) (take_more bytes i 0 below)
+    ∙ flat_map-append block_byte (take i bytes) (get_or bytes i 0 ∷ [])
+    ∙ ap (λ l. flat_map block_byte (take i bytes) ++ l) (append-nil (block_byte (get_or bytes i 0)))
+
+pub ruleset block_texts = (block_none, block_more)
 
 -- ---- A printer finds the bytes
 

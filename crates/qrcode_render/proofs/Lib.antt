@@ -1,5 +1,6 @@
 pub mod BandLemmas
 pub mod CaptionLemmas
+pub mod LineLemmas
 pub mod PixelLemmas
 pub mod PdfTextLemmas
 pub mod PdfLemmas

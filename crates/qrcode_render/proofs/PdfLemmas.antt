@@ -78,11 +78,11 @@ one_text pre n content =
     ∙ length-append (objects_text pre) (pdf_object n content)
 
 two_texts : (pre : Objects) (number : ℕ) (page : PdfPage) →
-    length (objects_text (pre ++ (number, page_content number page.width page.height) ∷ (number + 1, stream_content page.content) ∷ []))
+    length (objects_text (pre ++ (number, page_content number page) ∷ (number + 1, stream_content page.content) ∷ []))
     ≡ length (objects_text pre) + length (page_text number page)
 two_texts pre number page =
     let stream = pdf_object (number + 1) (stream_content page.content) in
-    ap length (texts_append pre ((number, page_content number page.width page.height) ∷ (number + 1, stream_content page.content) ∷ [])
+    ap length (texts_append pre ((number, page_content number page) ∷ (number + 1, stream_content page.content) ∷ [])
     ∙ ap (λ l. objects_text pre ++ (page_object number page ++ l)) (append-nil stream))
     ∙ length-append (objects_text pre) (page_text number page)
 
@@ -94,7 +94,7 @@ found_offsets : (number : ℕ) (pre rest : Objects) (pages : List PdfPage) → B
     ≡ offsets_from (length (pdf_header ++ objects_text pre)) number pages
 found_offsets number pre rest [] below = refl
 found_offsets number pre rest (page ∷ pages) below =
-    let a = page_content number page.width page.height in
+    let a = page_content number page in
     let b = stream_content page.content in
     let left = page_objects (number + 2) pages ++ rest in
     let all : Objects = pre ++ ((number, a) ∷ (number + 1, b) ∷ left) in
@@ -133,7 +133,7 @@ before_tree : (number : ℕ) (pages : List PdfPage) (tree : List ℕ) → 2 < nu
     objects_before 2 (page_objects number pages ++ (2, tree) ∷ []) ≡ page_objects number pages
 before_tree number [] tree past = refl
 before_tree number (page ∷ pages) tree past =
-    let a = page_content number page.width page.height in
+    let a = page_content number page in
     let b = stream_content page.content in
     let left = page_objects (number + 2) pages ++ (2, tree) ∷ [] in
     before_other 2 number a ((number + 1, b) ∷ left) (λ e. omega (arith, e, past))

@@ -32,7 +32,7 @@ in_page : (number k : ℕ) (pages : List PdfPage) (rest : Objects) → number �
     Found k (page_objects number pages ++ rest)
 in_page number k [] rest past below = absurd (omega (arith, past, below))
 in_page number k (page ∷ pages) rest past below =
-    let a = page_content number page.width page.height in
+    let a = page_content number page in
     let b = stream_content page.content in
     let left = page_objects (number + 2) pages ++ rest in
     elim (cases_lt number k) [
@@ -54,7 +54,7 @@ in_page number k (page ∷ pages) rest past below =
 tree_found : (number : ℕ) (pages : List PdfPage) (content : List ℕ) → 2 < number → Found 2 (page_objects number pages ++ (2, content) ∷ [])
 tree_found number [] content past = first_found 2 content []
 tree_found number (page ∷ pages) content past =
-    let a = page_content number page.width page.height in
+    let a = page_content number page in
     let b = stream_content page.content in
     let left = page_objects (number + 2) pages ++ (2, content) ∷ [] in
     later_found 2 number a ((number + 1, b) ∷ left) (λ e. omega (arith, e, past)) (

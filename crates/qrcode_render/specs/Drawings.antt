@@ -18,8 +18,12 @@ use Rattle.qrcode_render.specs.Eps.{eps_captioned}
 use Rattle.qrcode_render.specs.EscPos.{ticket_text}
 use Rattle.qrcode_render.specs.Labels.{IsLabel}
 use Rattle.qrcode_render.specs.Svg.{svg_captioned}
-use Rattle.qrcode_render.specs.Pdf.{PdfPage, pdf_document, pdf_page}
+use Rattle.qrcode_render.specs.Pdf.{PdfPage, captioned_page, pdf_document}
 use Rattle.qrcode_render.specs.PngPixels.{png_file}
+
+-- The page of a picture in a document, with what the options say beside its scale and quiet zone.
+abbrev pub options_page : DrawOptions → Picture → PdfPage
+options_page o p = captioned_page o.module_um (option_copied o.caption) o.colors p
 
 -- The bytes are those of the picture in a format, with what the options say beside the format, the
 -- scale and the quiet zone. Of PNG they are any bytes in which a reader finds the pixels.
@@ -39,15 +43,15 @@ IsPictureAs Eps o p bytes =
 IsPictureAs EscPos o p bytes = bytes ≡ ticket_text o.feed o.cut p
 IsPictureAs Zpl o p bytes = IsLabel o.compressed o.at (option_copied o.caption) o.copies p bytes
 IsPictureAs Pdf o p bytes =
-    bytes ≡ pdf_document (option_copied o.title) (pdf_page o.module_um o.colors p ∷ [])
+    bytes ≡ pdf_document (option_copied o.title) (options_page o p ∷ [])
 
 -- The bytes show the grid as the options say.
 abbrev pub IsPictureOf : DrawOptions → Grid → List ℕ → Type 0
 IsPictureOf o grid bytes = IsPictureAs o.format o (picture grid o.scale o.quiet) bytes
 
--- The page of a grid in a document, as the options say.
+-- The page of a grid, as the options say.
 abbrev pub page_as : DrawOptions → Grid → PdfPage
-page_as o grid = pdf_page o.module_um o.colors (picture grid o.scale o.quiet)
+page_as o grid = options_page o (picture grid o.scale o.quiet)
 
 -- The bytes of a picture in a format.
 abbrev pub drawn_bytes : Drawn → List ℕ

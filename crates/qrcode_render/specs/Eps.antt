@@ -12,7 +12,7 @@ use Rattle.picture_settings.specs.PostScript.{string_text}
 use Rattle.grid_pictures.specs.Pictures.{Picture, columns_of, rows_of}
 use Rattle.grid_pictures.specs.Paths.{path}
 use Rattle.grid_pictures.specs.Pens.{eps_rectangle}
-use Rattle.qrcode_render.specs.Captions.{high, hundredths, module_size}
+use Rattle.qrcode_render.specs.Captions.{Block, block_below, each_line, high, hundredths, line_row}
 
 -- The width of a module in points, of which an inch has 72: the scale, or the width that is given in
 -- micrometres.
@@ -110,37 +110,53 @@ eps_document module_um title colors p =
     ++ (eps_ground colors.light (columns_of p) (rows_of p)
     ++ (eps_ink colors.dark ++ (path eps_rectangle p (rows_of p) ++ eps_end)))))
 
--- The text below the picture, in the middle of the last rows. The rows are counted from the top, so
--- the font is turned over.
-unfoldable pub caption_start : (size : List ℕ) → List ℕ
-caption_start size =
+-- The font of the text below the picture. The rows are counted from the top, so it is turned over.
+unfoldable pub caption_font : (size : List ℕ) → List ℕ
+caption_font size =
     codes "/Courier findfont[" ++ (size ++ (codes " 0 0 -" ++ (size ++
-    codes " 0 0]makefont setfont\n(")))
+    codes " 0 0]makefont setfont\n")))
 
+-- What shows a line, in the middle of these columns.
 unfoldable pub caption_end : (columns y : ℕ) → List ℕ
 caption_end columns y =
     codes ")\ndup stringwidth pop " ++ (decimal columns ++ (codes " exch sub 2 div " ++
     (decimal y ++ codes " moveto show\n")))
 
-abbrev pub eps_caption : (text : List ℕ) → Picture → List ℕ
-eps_caption text p =
-    caption_start (hundredths (module_size (columns_of p) text))
-    ++ (string_text text ++ caption_end (columns_of p) (rows_of p + 3))
+-- A line, before what shows it.
+abbrev pub eps_shown : (line end : List ℕ) → List ℕ
+eps_shown line end = codes "(" ++ (string_text line ++ end)
+
+-- Line n.
+abbrev pub eps_line : Block → (columns rows n : ℕ) → (line : List ℕ) → List ℕ
+eps_line b columns rows n line = eps_shown line (caption_end columns (line_row b rows n))
+
+-- The font, and all lines.
+abbrev pub eps_caption : Block → (columns rows : ℕ) → List ℕ
+eps_caption b columns rows =
+    caption_font (hundredths b.size) ++ each_line (eps_line b columns rows) b.lines
 
 -- The end of the document, with this text, if it is given.
-abbrev pub eps_finish : (caption : Option (List ℕ)) → Picture → List ℕ
-eps_finish None p = eps_end
-eps_finish (Some text) p = codes "fill\n" ++ (eps_caption text p ++ codes "showpage\n%%EOF\n")
+abbrev pub eps_finish : Option Block → (columns rows : ℕ) → List ℕ
+eps_finish None columns rows = eps_end
+eps_finish (Some b) columns rows =
+    codes "fill\n" ++ (eps_caption b columns rows ++ codes "showpage\n%%EOF\n")
 
--- The document of a picture, with a text below it, in rows of its own, if it is given.
+-- The document of a picture, with a laid out text below it, in rows of its own, if it is given.
+abbrev pub eps_laid_out : Option ℕ → (title : Option (List ℕ)) → Option Block → Colors →
+    Picture → List ℕ
+eps_laid_out module_um title block colors p =
+    eps_comments module_um p.scale (columns_of p) (high block (rows_of p))
+    ++ (title_comment title
+    ++ (eps_setup (module_points module_um p.scale) (high block (rows_of p))
+    ++ (eps_ground colors.light (columns_of p) (high block (rows_of p))
+    ++ (eps_ink colors.dark ++ (path eps_rectangle p (rows_of p)
+    ++ eps_finish block (columns_of p) (rows_of p))))))
+
+-- The same, with a text below it, if it is given.
 abbrev pub eps_captioned : Option ℕ → (title caption : Option (List ℕ)) → Colors → Picture →
     List ℕ
 eps_captioned module_um title caption colors p =
-    eps_comments module_um p.scale (columns_of p) (high caption (rows_of p))
-    ++ (title_comment title
-    ++ (eps_setup (module_points module_um p.scale) (high caption (rows_of p))
-    ++ (eps_ground colors.light (columns_of p) (high caption (rows_of p))
-    ++ (eps_ink colors.dark ++ (path eps_rectangle p (rows_of p) ++ eps_finish caption p)))))
+    eps_laid_out module_um title (block_below module_um caption p) colors p
 
 -- The document of a picture in black on white, with the size of a module if it is given, and
 -- no title.

@@ -20,6 +20,7 @@ pub use Rattle.grid_pictures.specs.Numbers
 pub use Rattle.grid_pictures.specs.Runs
 pub use Rattle.grid_pictures.specs.PathLaws
 pub mod Captions
+pub mod CaptionTypes
 pub mod Svg
 pub mod Eps
 pub mod PdfFile

@@ -3,7 +3,7 @@
 -- dark modules in a row. The page is exactly the picture with its quiet zone.
 use Rattle.std.specs.Prelude.{ℕ, ◌+◌, ◌-◌, ◌*◌, ◌/◌, ◌%◌, nat_lt, if◌then◌else◌}
 use Rattle.std.specs.Prelude.{List, [], ◌∷◌, ◌++◌, length, flat_map, chars, codes, decimal}
-use Rattle.std.specs.Prelude.{Option, None, Some}
+use Rattle.std.specs.Prelude.{Option, None, Some, is_some, Bool, true, false}
 use Rattle.std.specs.List.{range_with_len}
 use Rattle.picture_settings.specs.declared.colors.Colors.{Colors}
 use Rattle.picture_settings.specs.declared.colors.Ground.{Ground}
@@ -13,23 +13,34 @@ use Rattle.picture_settings.specs.Resolutions.{nearest}
 use Rattle.grid_pictures.specs.Paths.{path}
 use Rattle.grid_pictures.specs.Pens.{pdf_rectangle}
 use Rattle.grid_pictures.specs.Pictures.{Picture, columns_of, rows_of}
+use Rattle.picture_settings.specs.PostScript.{string_text}
+use Rattle.qrcode_render.specs.Captions.{Block, block_below, each_line, high, hundredths, line_row}
 use Rattle.qrcode_render.specs.Eps.{exact_side, thousandths}
 use Rattle.qrcode_render.specs.PdfFile.{pdf_file}
 use Rattle.qrcode_render.specs.Zpl.{hex_pair}
 
 -- ---- The document (7.7, "Document Structure")
 
--- A page: its sides in points, and what its content stream has.
+-- A page: its sides in points, whether it has text, and what its content stream has.
 pub record PdfPage : Type 0 where
   pub width : List ℕ
   pub height : List ℕ
+  pub has_text : Bool
   pub content : List ℕ
 
+-- The resources of a page of its own: with text, the font F (9.6.2.2, "Standard Type 1 Fonts").
+abbrev pub page_resources : (has_text : Bool) → List ℕ
+page_resources false = []
+page_resources true =
+    codes "/Resources<</Font<</F<</Type/Font/Subtype/Type1/BaseFont/Courier"
+    ++ codes "/Encoding/WinAnsiEncoding>>>>>>"
+
 -- What the object of a page is, by its number. The number of its content stream is the next one.
-unfoldable pub page_content : (number : ℕ) → (width height : List ℕ) → List ℕ
-page_content number width height =
-    codes "<</Type/Page/Parent 2 0 R/MediaBox[0 0 " ++ (width ++ (codes " " ++ (height ++
-    (codes "]/Contents " ++ (decimal (number + 1) ++ codes " 0 R>>")))))
+unfoldable pub page_content : (number : ℕ) → PdfPage → List ℕ
+page_content number page =
+    codes "<</Type/Page/Parent 2 0 R" ++ (page_resources page.has_text ++
+    (codes "/MediaBox[0 0 " ++ (page.width ++ (codes " " ++ (page.height ++
+    (codes "]/Contents " ++ (decimal (number + 1) ++ codes " 0 R>>")))))))
 
 -- What the object of a content stream is (7.3.8, "Stream Objects").
 unfoldable pub stream_content : (content : List ℕ) → List ℕ
@@ -41,7 +52,7 @@ stream_content content =
 abbrev pub page_objects : (number : ℕ) → List PdfPage → List (ℕ × List ℕ)
 page_objects number [] = []
 page_objects number (page ∷ pages) =
-    (number, page_content number page.width page.height) ∷ (number + 1, stream_content page.content)
+    (number, page_content number page) ∷ (number + 1, stream_content page.content)
     ∷ page_objects (number + 2) pages
 
 -- The catalog (7.7.2, "Document Catalog").
@@ -150,22 +161,65 @@ unfoldable pub pdf_units : (unit height : List ℕ) → List ℕ
 pdf_units unit height =
     unit ++ (codes " 0 0 -" ++ (unit ++ (codes " 0 " ++ (height ++ codes " cm\n"))))
 
+-- Where a line of the text below a picture begins, in hundredths of a module, so that it is in the
+-- middle: a character is 0.6 times as wide as its size.
+abbrev pub line_start : (size columns length : ℕ) → ℕ
+line_start size columns length = (columns * 100 - size * length * 3 / 5) / 2
+
+-- The place of a line (9.4.2, "Text-Positioning Operators"). The rows are counted from the top, so
+-- the letters are turned over.
+unfoldable pub text_place : (start : List ℕ) → (row : ℕ) → List ℕ
+text_place start row =
+    codes "1 0 0 -1 " ++ (start ++ (codes " " ++ (decimal row ++ codes " Tm(")))
+
+-- A line after its place, as a string (7.3.4.2, "Literal Strings", as those of PostScript).
+abbrev pub placed : (place line : List ℕ) → List ℕ
+placed place line = place ++ (string_text line ++ codes ")Tj\n")
+
+-- Line n.
+abbrev pub pdf_line : Block → (columns rows n : ℕ) → (line : List ℕ) → List ℕ
+pdf_line b columns rows n line =
+    placed (text_place (hundredths (line_start b.size columns (length line))) (line_row b rows n))
+    line
+
+-- The command for the font (9.3, "Text State Parameters and Operators"), up to the lines.
+unfoldable pub text_start : (size : List ℕ) → List ℕ
+text_start size = codes "f\nBT\n/F " ++ (size ++ codes " Tf\n")
+
+-- The end of the path, and the text below the picture, if there is one.
+abbrev pub path_end : Option Block → (columns rows : ℕ) → List ℕ
+path_end None columns rows = codes "f"
+path_end (Some b) columns rows =
+    text_start (hundredths b.size) ++ (each_line (pdf_line b columns rows) b.lines ++ codes "ET")
+
 -- The content stream of a picture on a page with these sides.
-abbrev pub picture_content : (module_um : Option ℕ) → Colors → Picture →
+abbrev pub picture_content : (module_um : Option ℕ) → Option Block → Colors → Picture →
     (width height : List ℕ) → List ℕ
-picture_content module_um colors p width height =
+picture_content module_um block colors p width height =
     pdf_ground colors.light width height
     ++ (pdf_ink colors.dark
     ++ (pdf_units (module_width module_um p.scale) height
-    ++ (path pdf_rectangle p (rows_of p) ++ codes "f")))
+    ++ (path pdf_rectangle p (rows_of p) ++ path_end block (columns_of p) (rows_of p))))
 
--- The page of a picture, with the size of a module in micrometres and with colours, if they are
--- given.
-abbrev pub pdf_page : (module_um : Option ℕ) → Colors → Picture → PdfPage
-pdf_page module_um colors p =
+-- The page of a picture, with a laid out text below it, in rows of its own, if it is given.
+abbrev pub page_laid_out : (module_um : Option ℕ) → Option Block → Colors → Picture → PdfPage
+page_laid_out module_um block colors p =
     record {
       width = page_side module_um p.scale (columns_of p);
-      height = page_side module_um p.scale (rows_of p);
-      content = picture_content module_um colors p (page_side module_um p.scale (columns_of p))
-          (page_side module_um p.scale (rows_of p));
+      height = page_side module_um p.scale (high block (rows_of p));
+      has_text = is_some block;
+      content = picture_content module_um block colors p
+          (page_side module_um p.scale (columns_of p))
+          (page_side module_um p.scale (high block (rows_of p)));
     }
+
+-- The page of a picture, with the size of a module in micrometres, with a text below it and with
+-- colours, if they are given.
+abbrev pub captioned_page : (module_um : Option ℕ) → (caption : Option (List ℕ)) → Colors →
+    Picture → PdfPage
+captioned_page module_um caption colors p =
+    page_laid_out module_um (block_below module_um caption p) colors p
+
+-- The same with no text.
+abbrev pub pdf_page : (module_um : Option ℕ) → Colors → Picture → PdfPage
+pdf_page module_um colors p = captioned_page module_um None colors p

@@ -10,5 +10,6 @@ page_of page =
     record {
       width = string_bytes page.width;
       height = string_bytes page.height;
+      has_text = page.has_text;
       content = string_bytes page.content;
     }

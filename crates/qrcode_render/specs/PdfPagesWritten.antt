@@ -22,7 +22,7 @@ started title = record { size = length (pdf_start title); offsets = [] }
 
 -- The object of a page.
 abbrev pub page_object : (number : ℕ) → PdfPage → List ℕ
-page_object number page = pdf_object number (page_content number page.width page.height)
+page_object number page = pdf_object number (page_content number page)
 
 -- A page with its content stream.
 abbrev pub page_text : (number : ℕ) → PdfPage → List ℕ

@@ -11,7 +11,8 @@ use Rattle.picture_settings.specs.declared.colors.Rgb.{Rgb}
 use Rattle.grid_pictures.specs.Paths.{path}
 use Rattle.grid_pictures.specs.Pens.{rectangle}
 use Rattle.grid_pictures.specs.Pictures.{Picture, columns_of, rows_of, pixel_width, pixel_height}
-use Rattle.qrcode_render.specs.Captions.{high, high_pixels, hundredths, module_size}
+use Rattle.qrcode_render.specs.Captions.{Block, block_below, each_line, high, high_pixels}
+use Rattle.qrcode_render.specs.Captions.{hundredths, line_row}
 use Rattle.qrcode_render.specs.Zpl.{hex_pair}
 
 -- Micrometres, as a decimal number of millimetres: two digits after the point, or three where the
@@ -70,36 +71,50 @@ path_start color =
 abbrev pub closing : List ℕ
 closing = codes "\"/>\n</svg>\n"
 
--- The text below the picture, in the middle of the last rows.
+-- The first tag of a line of the text below the picture, in the middle.
 unfoldable pub caption_tag : (y : ℕ) → (size color : List ℕ) → List ℕ
 caption_tag y size color =
     codes "<text x=\"50%\" y=\"" ++ (decimal y
     ++ (codes "\" text-anchor=\"middle\" font-family=\"monospace\" font-size=\"" ++ (size
     ++ (codes "\" fill=\"" ++ (color ++ codes "\">")))))
 
-abbrev pub caption_element : (text : List ℕ) → Option Rgb → Picture → List ℕ
-caption_element text dark p =
-    caption_tag (rows_of p + 3) (hundredths (module_size (columns_of p) text)) (stroke dark)
-    ++ (xml_text text ++ codes "</text>\n")
+-- A line after its tag.
+abbrev pub tagged : (tag line : List ℕ) → List ℕ
+tagged tag line = tag ++ (xml_text line ++ codes "</text>\n")
+
+-- Line n.
+abbrev pub caption_element : Block → Option Rgb → (rows n : ℕ) → (line : List ℕ) → List ℕ
+caption_element b dark rows n line =
+    tagged (caption_tag (line_row b rows n) (hundredths b.size) (stroke dark)) line
+
+-- All lines.
+abbrev pub caption_elements : Block → Option Rgb → (rows : ℕ) → List ℕ
+caption_elements b dark rows = each_line (caption_element b dark rows) b.lines
 
 -- The end of the document, with this text, if it is given.
-abbrev pub svg_end : (caption : Option (List ℕ)) → Option Rgb → Picture → List ℕ
-svg_end None dark p = closing
-svg_end (Some text) dark p =
-    codes "\"/>\n" ++ (caption_element text dark p ++ codes "</svg>\n")
+abbrev pub svg_end : Option Block → Option Rgb → (rows : ℕ) → List ℕ
+svg_end None dark rows = closing
+svg_end (Some b) dark rows =
+    codes "\"/>\n" ++ (caption_elements b dark rows ++ codes "</svg>\n")
 
--- The document of a picture, with the size of a module in micrometres, with a title, with a text
--- below it and with colours, if they are given. The text has rows of its own.
+-- The document of a picture, with a title, with a laid out text below it and with colours, if they
+-- are given. The text has rows of its own.
+abbrev pub svg_laid_out : (module_um : Option ℕ) → (title : Option (List ℕ)) → Option Block →
+    Colors → Picture → List ℕ
+svg_laid_out module_um title block colors p =
+    svg_tag (svg_side module_um (columns_of p) (pixel_width p))
+    (svg_side module_um (high block (rows_of p)) (high_pixels block p)) (columns_of p)
+    (high block (rows_of p))
+    ++ (title_element title
+    ++ (svg_ground colors.light (columns_of p) (high block (rows_of p))
+    ++ (path_start (stroke colors.dark) ++ (path rectangle p (rows_of p)
+    ++ svg_end block colors.dark (rows_of p)))))
+
+-- The same, with the size of a module in micrometres and with a text below it, if they are given.
 abbrev pub svg_captioned : (module_um : Option ℕ) → (title caption : Option (List ℕ)) → Colors →
     Picture → List ℕ
 svg_captioned module_um title caption colors p =
-    svg_tag (svg_side module_um (columns_of p) (pixel_width p))
-    (svg_side module_um (high caption (rows_of p)) (high_pixels caption p)) (columns_of p)
-    (high caption (rows_of p))
-    ++ (title_element title
-    ++ (svg_ground colors.light (columns_of p) (high caption (rows_of p))
-    ++ (path_start (stroke colors.dark) ++ (path rectangle p (rows_of p)
-    ++ svg_end caption colors.dark p))))
+    svg_laid_out module_um title (block_below module_um caption p) colors p
 
 -- The document of a picture, with the size of a module in micrometres, with a title and with
 -- colours, if they are given.

@@ -1,13 +1,13 @@
 -- A picture as a label of ZPL II, for label printers (Zebra, "ZPL II Programming Guide": `^XA`,
 -- `^FO`, `^GF`, `^FS`, `^PQ`, `^XZ`). Labels follow each other.
 use Rattle.std.specs.Prelude.{◌≡◌, ℕ, zero, suc, true, ◌+◌, ◌-◌, ◌*◌, ◌/◌, ◌%◌, ◌==◌, ◌&&◌, ◌||◌}
-use Rattle.std.specs.Prelude.{min, max, nat_lt, nat_le, if◌then◌else◌, length, option_map}
+use Rattle.std.specs.Prelude.{min, max, nat_lt, nat_le, if◌then◌else◌, length, option_map, get_or}
 use Rattle.std.specs.Prelude.{List, [], ◌∷◌, ◌++◌, flat_map, codes, decimal, Option, Some, None}
 use Rattle.std.specs.List.{range_with_len, list_all}
 use Rattle.picture_settings.specs.declared.bounds.TheConstants.{FIELD_BYTES}
 use Rattle.grid_pictures.specs.Pictures.{Picture, pixel_height, pixel_width}
 use Rattle.grid_pictures.specs.Bitmaps.{row_length, rows_from}
-use Rattle.qrcode_render.specs.Captions.{fitting}
+use Rattle.qrcode_render.specs.Captions.{Block, each_line, laid_out, line_width}
 
 -- A hexadecimal digit.
 abbrev pub hex_digit : ℕ → ℕ
@@ -126,26 +126,64 @@ abbrev pub FieldsAreRead : Type 0
 FieldsAreRead = (bytes : List ℕ) → list_all (λ b. nat_lt b 256) bytes ≡ true →
     read_field (field_data bytes) ≡ Some bytes
 
--- The head of a field of text, up to the text: the position of its upper left corner in dots, and
--- the height and the width of its characters in the scalable font of the printer.
-unfoldable pub text_head : (x y height width : ℕ) → List ℕ
-text_head x y height width =
-    codes "^FO" ++ (decimal x ++ (codes "," ++ (decimal y ++ (codes "^A0N," ++ (decimal height ++
-    (codes "," ++ (decimal width ++ codes "^FH^FD")))))))
+-- The position of the upper left corner of a field in dots.
+unfoldable pub field_place : (x y : ℕ) → List ℕ
+field_place x y = codes "^FO" ++ (decimal x ++ (codes "," ++ decimal y))
 
--- The height and the width of characters, of which a printer draws none with fewer than 10 dots.
+-- The command for a field block: its width in dots, the greatest number of lines, and their start
+-- at the left.
+unfoldable pub field_block : (width : ℕ) → List ℕ
+field_block width = codes "^FB" ++ (decimal width ++ codes ",9999,0,L")
+
+-- The height and the width of characters in the scalable font of the printer, and what follows up to
+-- the text of a field.
+unfoldable pub text_font : (height width : ℕ) → List ℕ
+text_font height width =
+    codes "^A0N," ++ (decimal height ++ (codes "," ++ (decimal width ++ codes "^FH^FD")))
+
+-- A byte of a text in a field block, in which two backslashes are one.
+abbrev pub block_byte : ℕ → List ℕ
+block_byte c = if c == 92 then 92 ∷ 92 ∷ [] else field_byte c
+
+unfoldable pub block_data : List ℕ → List ℕ
+block_data text = flat_map block_byte text
+
+-- What ends the line before line n of a field block.
+abbrev pub line_break : ℕ → List ℕ
+line_break zero = []
+line_break (suc n) = codes "\\&"
+
+-- Line n of a field block.
+abbrev pub block_line : ℕ → List ℕ → List ℕ
+block_line n line = line_break n ++ block_data line
+
+-- The height of characters, of which a printer draws none with fewer than 10 dots, and the least
+-- width.
 abbrev pub text_height : Picture → ℕ
 text_height p = max (3 * p.scale) 10
 
-abbrev pub text_width : Picture → (text : List ℕ) → ℕ
-text_width p text = max (fitting (text_height p) (pixel_width p) text) 10
+abbrev pub least_width : Picture → ℕ
+least_width p = max (2 * p.scale) 10
+
+-- The text below a picture, with sizes in dots.
+abbrev pub zpl_block : Picture → (text : List ℕ) → Block
+zpl_block p text = laid_out (least_width p) (text_height p) (line_width (pixel_width p)) text
+
+-- The command for the font of such a text.
+abbrev pub block_font : Picture → Block → List ℕ
+block_font p b = text_font (text_height p) (max b.size 10)
+
+-- One line is a field, and several are a field block, as wide as the picture.
+abbrev pub lines_field : Picture → Block → List ℕ
+lines_field p b =
+    if length b.lines == 1 then block_font p b ++ field_data (get_or b.lines 0 []) else
+    field_block (pixel_width p) ++ (block_font p b ++ each_line block_line b.lines)
 
 -- The field of the text below the picture, if it is given.
 abbrev pub caption_field : (at : ℕ × ℕ) → (caption : Option (List ℕ)) → Picture → List ℕ
 caption_field at None p = []
 caption_field at (Some text) p =
-    text_head at.0 (at.1 + pixel_height p) (text_height p) (text_width p text)
-    ++ (field_data text ++ codes "^FS\n")
+    field_place at.0 (at.1 + pixel_height p) ++ (lines_field p (zpl_block p text) ++ codes "^FS\n")
 
 -- The label: all fields, one below the other, the text below them, if it is given, and how many
 -- copies are printed.

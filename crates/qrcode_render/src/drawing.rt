@@ -7,15 +7,15 @@ ghost use Rattle.picture_settings.specs.Resolutions.{nearest, per_metre};
 ghost use Rattle.grid_pictures.specs.Pictures.{IsDrawable};
 ghost use Rattle.grid_pictures.specs.Picture.{shown};
 ghost use Rattle.qrcode_render.specs.Drawings.{IsPictureOf, IsPictureAs};
-ghost use Rattle.qrcode_render.specs.Drawings.{drawn_bytes, is_drawn_text};
+ghost use Rattle.qrcode_render.specs.Drawings.{drawn_bytes, is_drawn_text, options_page};
 ghost use Rattle.qrcode_render.specs.Labels.{IsLabel};
-ghost use Rattle.qrcode_render.specs.Pdf.{pdf_document, pdf_page};
+ghost use Rattle.qrcode_render.specs.Pdf.{pdf_document};
 
 use crate::caption::{Texts, terminal_captioned};
 use crate::eps::eps_captioned;
 use crate::escpos::ticket;
 use crate::pbm::pbm;
-use crate::pdf::pdf_document;
+use crate::pdf::pdf_captioned;
 use crate::png_file::png_file;
 use crate::svg::svg_captioned;
 use crate::zpl::{compressed_captioned, label_captioned};
@@ -144,10 +144,15 @@ fn zpl(alloc: Global, picture: &Picture, options: &DrawOptions) -> Result<Vec<u8
 /// Returns the document of the options.
 fn pdf(alloc: Global, picture: &Picture, options: &DrawOptions) -> Result<Vec<u8>, AllocError>
     ensures { IfOk result (λ bytes. bytes.items ≡ pdf_document (option_copied options.now.title)
-        (pdf_page options.now.module_um options.now.colors (shown picture.now) ∷ [])) }
+        (options_page options.now (shown picture.now) ∷ [])) }
 {
-    let (module_um, title) = (options.module_um, options.title);
-    pdf_document(alloc, picture, module_um, title, options.colors)
+    pdf_captioned(
+        alloc,
+        picture,
+        options.module_um,
+        texts(options),
+        options.colors,
+    )
 }
 
 /// Returns the scale and the quiet zone of the options.

@@ -9,10 +9,12 @@ ghost use Rattle.qrcode_render.specs.Eps.{box_side, eps_document, eps_head, eps_
 ghost use Rattle.qrcode_render.specs.Eps.{eps_fill, eps_ground, eps_ink, ps_color};
 ghost use Rattle.qrcode_render.specs.Eps.{eps_comments, exact_comment, exact_line, exact_side};
 ghost use Rattle.qrcode_render.specs.Eps.{module_points, thousandths, title_comment};
-ghost use Rattle.qrcode_render.specs.Eps.{caption_end, caption_start, eps_caption, eps_captioned};
-ghost use Rattle.qrcode_render.specs.Eps.{eps_finish};
+ghost use Rattle.qrcode_render.specs.CaptionTypes.{block_of, option_block};
+ghost use Rattle.qrcode_render.specs.Eps.{caption_end, caption_font, eps_caption, eps_captioned};
+ghost use Rattle.qrcode_render.specs.Eps.{eps_finish, eps_shown};
 
-use crate::caption::{Texts, high, module_size};
+use crate::block::Caption;
+use crate::caption::{Texts, block_below, high, hundredths};
 use grid_pictures::path::push_path;
 use grid_pictures::pen::Pen;
 use grid_pictures::picture::Picture;
@@ -66,9 +68,9 @@ pub fn eps_captioned(
         eps_captioned module_um (option_copied texts.entry.title)
         (option_copied texts.entry.caption) colors (shown picture.now)) }
 {
-    let caption = texts.caption;
+    let caption = block_below(alloc, texts.caption, picture, module_um)?;
     let (columns, scale) = (picture.columns(), picture.scale());
-    let rows = high(caption, picture.rows());
+    let rows = high(&caption, picture.rows());
     let mut text = comments(alloc, module_um, scale, columns, rows)?;
     push_title(&mut text, texts.title)?;
     let points = module_points(alloc, module_um, scale)?;
@@ -79,7 +81,7 @@ pub fn eps_captioned(
     let ink = ink(alloc, colors.dark)?;
     text.push_str(ink.as_str())?;
     push_path(&mut text, picture, Pen::Eps)?;
-    push_end(alloc, &mut text, picture, caption)?;
+    push_end(alloc, &mut text, &caption, columns, picture.rows())?;
     Ok(text)
 }
 
@@ -87,48 +89,64 @@ pub fn eps_captioned(
 fn push_end(
     alloc: Global,
     text: &mut String,
-    picture: &Picture,
-    caption: Option<&str>,
+    caption: &Option<Caption>,
+    columns: usize,
+    rows: usize,
 ) -> Result<(), AllocError>
+    requires { rows ≤ MAX_COLUMNS }
     ensures { OnOk result (string_bytes text.new ≡ string_bytes text.old
-        ++ eps_finish (option_copied caption.entry) (shown picture.now)) }
+        ++ eps_finish (option_block caption.now) columns rows) }
 {
     let Some(caption) = caption else {
         return text.push_str("fill\nshowpage\n%%EOF\n");
     };
     text.push_str("fill\n")?;
-    push_caption(alloc, text, picture, caption)?;
+    push_caption(alloc, text, caption, columns, rows)?;
     text.push_str("showpage\n%%EOF\n")
 }
 
-/// Appends the text below the picture.
+/// Appends the font and the lines of the text below the picture.
 fn push_caption(
     alloc: Global,
     text: &mut String,
-    picture: &Picture,
-    caption: &str,
+    caption: &Caption,
+    columns: usize,
+    rows: usize,
 ) -> Result<(), AllocError>
+    requires { rows ≤ MAX_COLUMNS }
     ensures { OnOk result (string_bytes text.new
-        ≡ string_bytes text.old ++ eps_caption caption.now (shown picture.now)) }
+        ≡ string_bytes text.old ++ eps_caption (block_of caption.now) columns rows) }
 {
-    let columns = picture.columns();
-    let size = module_size(alloc, columns, caption)?;
-    let start = caption_start(alloc, &size)?;
-    text.push_str(start.as_str())?;
-    push_string(text, caption)?;
-    let end = caption_end(alloc, columns, picture.rows() + 3)?;
-    text.push_str(end.as_str())
+    let lines = caption.lines();
+    let size = hundredths(alloc, caption.size())?;
+    let font = caption_font(alloc, &size)?;
+    text.push_str(font.as_str())?;
+    for n in 0..lines.len() {
+        let end = caption_end(alloc, columns, caption.line_row(rows, n))?;
+        push_line(text, &lines[n], &end)?;
+    }
+    Ok(())
 }
 
-/// Returns what sets the font of the text below the picture, up to the text.
-#[tactic(auto, unfolding(crate::specs::Eps::caption_start))]
-fn caption_start(alloc: Global, size: &str) -> Result<String, AllocError>
-    ensures { IfOk result (λ text. string_bytes text ≡ caption_start size.now) }
+/// Appends a line of the text below the picture, before what shows it.
+fn push_line(text: &mut String, line: &str, end: &str) -> Result<(), AllocError>
+    ensures { OnOk result (string_bytes text.new
+        ≡ string_bytes text.old ++ eps_shown line.now end.now) }
 {
-    format!(in alloc; "/Courier findfont[{size} 0 0 -{size} 0 0]makefont setfont\n(")
+    text.push_str("(")?;
+    push_string(text, line)?;
+    text.push_str(end)
 }
 
-/// Returns what shows the text, in the middle of these columns.
+/// Returns what sets the font of the text below the picture.
+#[tactic(auto, unfolding(crate::specs::Eps::caption_font))]
+fn caption_font(alloc: Global, size: &str) -> Result<String, AllocError>
+    ensures { IfOk result (λ text. string_bytes text ≡ caption_font size.now) }
+{
+    format!(in alloc; "/Courier findfont[{size} 0 0 -{size} 0 0]makefont setfont\n")
+}
+
+/// Returns what shows a line, in the middle of these columns.
 #[tactic(auto, unfolding(crate::specs::Eps::caption_end))]
 fn caption_end(alloc: Global, columns: usize, y: usize) -> Result<String, AllocError>
     ensures { IfOk result (λ text. string_bytes text ≡ caption_end columns y) }

@@ -16,14 +16,17 @@
 //! of `qrcode_core`, by the options of a `RenderConfig`.
 #![tactic(auto)]
 
+mod block;
 pub mod caption;
 mod compressed;
 mod drawing;
 pub mod eps;
 pub mod escpos;
 pub mod laws;
+mod lines;
 pub mod pbm;
 pub mod pdf;
+mod pdf_caption;
 mod pdf_page;
 pub mod pdf_pages;
 mod pdf_text;
@@ -31,6 +34,7 @@ pub mod png_file;
 pub mod renderers;
 pub mod svg;
 pub mod zpl;
+mod zpl_text;
 
 pub use drawing::{draw, draw_grid};
 pub use grid_pictures::picture::Picture;

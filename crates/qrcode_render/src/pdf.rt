@@ -5,8 +5,9 @@ ghost use Rattle.std.specs.Option.{ForSome, option_copied};
 ghost use Rattle.picture_settings.specs.declared.bounds.TheConstants.{MAX_MODULE_UM};
 ghost use Rattle.picture_settings.specs.Colors.{no_colors};
 ghost use Rattle.grid_pictures.specs.Picture.{shown};
-ghost use Rattle.qrcode_render.specs.Pdf.{pdf_document, pdf_page};
+ghost use Rattle.qrcode_render.specs.Pdf.{captioned_page, pdf_document, pdf_page};
 
+use crate::caption::Texts;
 use crate::pdf_page::draw_page;
 use crate::pdf_text::{push_end, push_page, start_text};
 use grid_pictures::picture::Picture;
@@ -42,8 +43,29 @@ pub fn pdf_document(
     ensures { IfOk result (λ bytes. bytes.items ≡ pdf_document (option_copied title.entry)
         (pdf_page module_um colors (shown picture.now) ∷ [])) }
 {
-    let page = draw_page(alloc, picture, module_um, colors)?;
-    let mut bytes = start_text(alloc, title)?;
+    let texts = Texts {
+        title,
+        caption: None,
+    };
+    pdf_captioned(alloc, picture, module_um, texts, colors)
+}
+
+/// Returns the picture as `pdf_document` has it, with a text below it, in rows of its own, if it is
+/// given. It fails only for lack of memory.
+pub fn pdf_captioned(
+    alloc: Global,
+    picture: &Picture,
+    module_um: Option<usize>,
+    texts: Texts,
+    colors: Colors,
+) -> Result<Vec<u8>, AllocError>
+    requires { ForSome module_um (λ n. n ≤ MAX_MODULE_UM) }
+    ensures { let caption = option_copied texts.entry.caption in
+        IfOk result (λ bytes. bytes.items ≡ pdf_document (option_copied texts.entry.title)
+        (captioned_page module_um caption colors (shown picture.now) ∷ [])) }
+{
+    let page = draw_page(alloc, picture, module_um, texts.caption, colors)?;
+    let mut bytes = start_text(alloc, texts.title)?;
     let start = bytes.len();
     let first = push_page(alloc, &mut bytes, 4, &page)?;
     let size = bytes.len();

@@ -1,44 +1,50 @@
 //! Pictures as content streams of PDF.
 ghost use Rattle.std.specs.Prelude.{◌≡◌, ◌≤◌, IfOk};
-ghost use Rattle.std.specs.Option.{ForSome};
+ghost use Rattle.std.specs.Option.{ForSome, option_copied};
 ghost use Rattle.std.specs.String.{string_bytes};
-ghost use Rattle.picture_settings.specs.declared.bounds.TheConstants.{MAX_COLUMNS, MAX_MODULE_UM};
+ghost use Rattle.picture_settings.specs.declared.bounds.TheConstants.{MAX_HIGH, MAX_MODULE_UM};
 ghost use Rattle.picture_settings.specs.declared.bounds.TheConstants.{MAX_SCALE};
 ghost use Rattle.grid_pictures.specs.Picture.{shown};
 ghost use Rattle.qrcode_render.specs.Pdf.{color_part, millionths, module_width, page_side};
 ghost use Rattle.qrcode_render.specs.Pdf.{pdf_color, pdf_fill, pdf_ground, pdf_ink, pdf_units};
-ghost use Rattle.qrcode_render.specs.Pdf.{pdf_page};
+ghost use Rattle.qrcode_render.specs.Pdf.{captioned_page};
 ghost use Rattle.qrcode_render.specs.PdfPages.{page_of};
 
+use crate::caption::{block_below, high};
 use crate::eps::{exact_side, thousandths};
+use crate::pdf_caption::push_end;
 use grid_pictures::path::push_path;
 use grid_pictures::pen::Pen;
 use grid_pictures::picture::Picture;
 use picture_settings::colors::{Colors, Ground, Rgb};
 use std::alloc::{AllocError, Global};
 
-/// A page: its sides in points, and what its content stream has.
+/// A page: its sides in points, whether it has text, and what its content stream has.
 #[derive(Debug, Drop)]
 pub(crate) struct Page {
     pub width: String,
     pub height: String,
+    pub has_text: bool,
     pub content: String,
 }
 
-/// Returns the page of a picture, with the width of a module in micrometres and with colours, if
-/// they are given.
+/// Returns the page of a picture, with the width of a module in micrometres, with a text below it
+/// and with colours, if they are given.
 pub(crate) fn draw_page(
     alloc: Global,
     picture: &Picture,
     module_um: Option<usize>,
+    caption: Option<&str>,
     colors: Colors,
 ) -> Result<Page, AllocError>
     requires { ForSome module_um (λ n. n ≤ MAX_MODULE_UM) }
-    ensures { IfOk result (λ page. page_of page ≡ pdf_page module_um colors (shown picture.now)) }
+    ensures { IfOk result (λ page. page_of page
+        ≡ captioned_page module_um (option_copied caption.entry) colors (shown picture.now)) }
 {
-    let scale = picture.scale();
-    let width = page_side(alloc, module_um, scale, picture.columns())?;
-    let height = page_side(alloc, module_um, scale, picture.rows())?;
+    let caption = block_below(alloc, caption, picture, module_um)?;
+    let (scale, columns) = (picture.scale(), picture.columns());
+    let width = page_side(alloc, module_um, scale, columns)?;
+    let height = page_side(alloc, module_um, scale, high(&caption, picture.rows()))?;
     let mut content = ground(alloc, colors.light, &width, &height)?;
     let ink = ink(alloc, colors.dark)?;
     content.push_str(ink.as_str())?;
@@ -46,10 +52,11 @@ pub(crate) fn draw_page(
     let units = units(alloc, &unit, &height)?;
     content.push_str(units.as_str())?;
     push_path(&mut content, picture, Pen::Pdf)?;
-    content.push_str("f")?;
+    push_end(alloc, &mut content, &caption, columns, picture.rows())?;
     Ok(Page {
         width,
         height,
+        has_text: caption.is_some(),
         content,
     })
 }
@@ -63,7 +70,7 @@ fn page_side(
 ) -> Result<String, AllocError>
     requires small { ForSome module_um (λ n. n ≤ MAX_MODULE_UM) }
     requires small_scale { scale ≤ MAX_SCALE }
-    requires few { modules ≤ MAX_COLUMNS }
+    requires few { modules ≤ MAX_HIGH }
     ensures { IfOk result (λ text. string_bytes text ≡ page_side module_um scale modules) }
 {
     match module_um {

@@ -17,13 +17,14 @@ ghost use Rattle.qrcode_core.specs.Symbol.{drawn_grid};
 ghost use Rattle.picture_settings.specs.declared.bounds.TheConstants.{MAX_MODULE_UM, MAX_PDF};
 ghost use Rattle.grid_pictures.specs.Picture.{shown};
 ghost use Rattle.qrcode_render.specs.declared.pdf_pages.PdfError.TheVariants.{OutOfMemory};
-ghost use Rattle.qrcode_render.specs.Drawings.{page_as};
+ghost use Rattle.qrcode_render.specs.Drawings.{options_page, page_as};
 ghost use Rattle.qrcode_render.specs.Pdf.{pdf_page};
+ghost use Rattle.qrcode_render.specs.PdfPages.{page_of};
 ghost use Rattle.qrcode_render.specs.PdfPagesWritten.{PdfWritten, after_page, next_page, pdf_end};
 ghost use Rattle.qrcode_render.specs.PdfPagesWritten.{pdf_start, started};
 
 use crate::drawing::shape;
-use crate::pdf_page::draw_page;
+use crate::pdf_page::{Page, draw_page};
 use crate::pdf_text::{push_end, push_page, start_text};
 use grid_pictures::picture::Picture;
 use picture_settings::bounds::MAX_PDF;
@@ -106,11 +107,33 @@ impl PdfPages {
         ensures unchanged { OnErr result (self.new ≡ self.old) }
     {
         let picture = Picture::of_symbol(symbol, shape(options));
-        self.picture(alloc, &picture, options.module_um, options.colors)
+        self.drawn(alloc, &picture, options)
+    }
+
+    /// Returns the page of a picture, as `page` does, with the scale and the quiet zone that
+    /// it has.
+    pub fn drawn(
+        &mut self,
+        alloc: Global,
+        picture: &Picture,
+        options: &DrawOptions,
+    ) -> Result<Vec<u8>, PdfError>
+        ensures page { IfOk result (λ bytes. bytes.items
+            ≡ next_page self.old (options_page options.now (shown picture.now))) }
+        ensures after { OnOk result (self.new
+            ≡ after_page self.old (options_page options.now (shown picture.now))) }
+        ensures fits { OnOk result (self.new.size ≤ MAX_PDF) }
+        ensures no_room { result ≡ Err PdfError.TooLong → MAX_PDF
+            < (after_page self.old (options_page options.now (shown picture.now))).size }
+        ensures unchanged { OnErr result (self.new ≡ self.old) }
+    {
+        let (module_um, caption) = (options.module_um, options.caption);
+        let page = draw_page(alloc, picture, module_um, caption, options.colors)?;
+        self.add(alloc, &page)
     }
 
     /// Returns the page of a picture, as `page` does, with the width of a module in micrometres and
-    /// with colours, if they are given.
+    /// with colours, if they are given, and with no text below it.
     pub fn picture(
         &mut self,
         alloc: Global,
@@ -128,9 +151,22 @@ impl PdfPages {
             < (after_page self.old (pdf_page module_um colors (shown picture.now))).size }
         ensures unchanged { OnErr result (self.new ≡ self.old) }
     {
-        let page = draw_page(alloc, picture, module_um, colors)?;
+        let page = draw_page(alloc, picture, module_um, None, colors)?;
+        self.add(alloc, &page)
+    }
+
+    /// Returns a page that is drawn, which is the next one, as `page` does.
+    fn add(&mut self, alloc: Global, page: &Page) -> Result<Vec<u8>, PdfError>
+        ensures page { IfOk result (λ bytes.
+            bytes.items ≡ next_page self.old (page_of page.now)) }
+        ensures after { OnOk result (self.new ≡ after_page self.old (page_of page.now)) }
+        ensures fits { OnOk result (self.new.size ≤ MAX_PDF) }
+        ensures no_room { result ≡ Err PdfError.TooLong →
+            MAX_PDF < (after_page self.old (page_of page.now)).size }
+        ensures unchanged { OnErr result (self.new ≡ self.old) }
+    {
         let mut bytes = Vec::new(alloc);
-        let first = push_page(alloc, &mut bytes, self.offsets.len() + 4, &page)?;
+        let first = push_page(alloc, &mut bytes, self.offsets.len() + 4, page)?;
         let size = self.size + bytes.len();
         if size > MAX_PDF {
             return Err(PdfError::TooLong);

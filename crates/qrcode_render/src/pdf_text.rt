@@ -4,7 +4,7 @@ ghost use Rattle.std.specs.Prelude.{chars, codes, decimal, flat_map, length};
 ghost use Rattle.std.specs.Option.{option_copied};
 ghost use Rattle.std.specs.String.{string_bytes};
 ghost use Rattle.qrcode_render.specs.Pdf.{hex_unit, information, page_content, page_references};
-ghost use Rattle.qrcode_render.specs.Pdf.{page_tree};
+ghost use Rattle.qrcode_render.specs.Pdf.{page_resources, page_tree};
 ghost use Rattle.qrcode_render.specs.Pdf.{stream_content, text_string, utf16_text, utf16_units};
 ghost use Rattle.qrcode_render.specs.PdfFile.{object_head, pdf_object, pdf_trailer, table_entry};
 ghost use Rattle.qrcode_render.specs.PdfFile.{table_head};
@@ -106,7 +106,7 @@ pub(crate) fn push_page(
     ensures first { IfOk result (λ n. n ≡ length (page_object number (page_of page.now))) }
     ensures small { IfOk result (λ n. n < 2 ^ 63) }
 {
-    let object = page_content(alloc, number, &page.width, &page.height)?;
+    let object = page_content(alloc, number, page)?;
     let first = push_object(alloc, bytes, number, &object)?;
     let stream = stream_content(alloc, &page.content)?;
     push_object(alloc, bytes, number + 1, &stream)?;
@@ -143,20 +143,28 @@ fn object_head(alloc: Global, number: usize) -> Result<String, AllocError>
 
 /// Returns what the object of a page is.
 #[tactic(auto, unfolding(crate::specs::Pdf::page_content))]
-fn page_content(
-    alloc: Global,
-    number: usize,
-    width: &str,
-    height: &str,
-) -> Result<String, AllocError>
+fn page_content(alloc: Global, number: usize, page: &Page) -> Result<String, AllocError>
     requires { number < 2 ^ 62 }
-    ensures { IfOk result (λ text.
-        string_bytes text ≡ page_content number width.now height.now) }
+    ensures { IfOk result (λ text. string_bytes text ≡ page_content number (page_of page.now)) }
 {
     let stream = number + 1;
+    let resources = resources(page.has_text);
+    let (width, height) = (&page.width, &page.height);
     format!(in alloc;
-        "<</Type/Page/Parent 2 0 R/MediaBox[0 0 {width} {height}]/Contents {stream} 0 R>>"
+        "<</Type/Page/Parent 2 0 R{resources}/MediaBox[0 0 {width} {height}]/Contents {stream} 0 R>>"
     )
+}
+
+/// Returns the resources of a page of its own.
+fn resources(has_text: bool) -> &'static str
+    ensures { result.now ≡ page_resources has_text }
+{
+    if has_text {
+        "/Resources<</Font<</F<</Type/Font/Subtype/Type1/BaseFont/Courier\
+/Encoding/WinAnsiEncoding>>>>>>"
+    } else {
+        ""
+    }
 }
 
 /// Returns what the object of a content stream is.

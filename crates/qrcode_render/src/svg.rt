@@ -2,16 +2,18 @@
 ghost use Rattle.std.specs.Prelude.{◌≡◌, ◌<◌, ◌≤◌, ◌++◌, [], ◌∷◌, None, IfOk, OnOk};
 ghost use Rattle.std.specs.Option.{ForSome, option_copied};
 ghost use Rattle.std.specs.String.{string_bytes};
-ghost use Rattle.picture_settings.specs.declared.bounds.TheConstants.{MAX_HIGH, MAX_MODULE_UM};
+ghost use Rattle.picture_settings.specs.declared.bounds.TheConstants.{MAX_COLUMNS, MAX_HIGH, MAX_MODULE_UM};
 ghost use Rattle.grid_pictures.specs.Picture.{shown};
 ghost use Rattle.qrcode_render.specs.Svg.{background, hex_color, millimetres, path_start, stroke};
 ghost use Rattle.qrcode_render.specs.Svg.{svg_colored, svg_document, svg_ground, svg_side};
-ghost use Rattle.qrcode_render.specs.Svg.{caption_element, caption_tag, svg_captioned, svg_end};
-ghost use Rattle.qrcode_render.specs.Svg.{svg_tag};
+ghost use Rattle.qrcode_render.specs.CaptionTypes.{block_of, option_block};
+ghost use Rattle.qrcode_render.specs.Svg.{caption_elements, caption_tag, svg_captioned, svg_end};
+ghost use Rattle.qrcode_render.specs.Svg.{svg_tag, tagged};
 ghost use Rattle.qrcode_render.specs.Svg.{svg_text, title_element};
 ghost use Rattle.qrcode_render.specs.Zpl.{hex_digit, hex_pair};
 
-use crate::caption::{Texts, high, high_pixels, module_size};
+use crate::block::Caption;
+use crate::caption::{Texts, block_below, high, high_pixels, hundredths};
 use grid_pictures::path::push_path;
 use grid_pictures::pen::Pen;
 use grid_pictures::picture::Picture;
@@ -78,11 +80,11 @@ pub fn svg_captioned(
         svg_captioned module_um (option_copied texts.entry.title)
         (option_copied texts.entry.caption) colors (shown picture.now)) }
 {
-    let caption = texts.caption;
+    let caption = block_below(alloc, texts.caption, picture, module_um)?;
     let columns = picture.columns();
-    let rows = high(caption, picture.rows());
+    let rows = high(&caption, picture.rows());
     let width = side(alloc, module_um, columns, picture.width())?;
-    let height = side(alloc, module_um, rows, high_pixels(caption, picture))?;
+    let height = side(alloc, module_um, rows, high_pixels(&caption, picture))?;
     let mut text = tag(alloc, &width, &height, columns, rows)?;
     push_title(&mut text, texts.title)?;
     let ground = ground(alloc, colors.light, columns, rows)?;
@@ -90,7 +92,7 @@ pub fn svg_captioned(
     let start = path_start(alloc, colors.dark)?;
     text.push_str(start.as_str())?;
     push_path(&mut text, picture, Pen::Svg)?;
-    push_end(alloc, &mut text, picture, caption, colors.dark)?;
+    push_end(alloc, &mut text, &caption, colors.dark, picture.rows())?;
     Ok(text)
 }
 
@@ -98,41 +100,55 @@ pub fn svg_captioned(
 fn push_end(
     alloc: Global,
     text: &mut String,
-    picture: &Picture,
-    caption: Option<&str>,
+    caption: &Option<Caption>,
     dark: Option<Rgb>,
+    rows: usize,
 ) -> Result<(), AllocError>
+    requires { rows ≤ MAX_COLUMNS }
     ensures { OnOk result (string_bytes text.new ≡ string_bytes text.old
-        ++ svg_end (option_copied caption.entry) dark (shown picture.now)) }
+        ++ svg_end (option_block caption.now) dark rows) }
 {
     let Some(caption) = caption else {
         return text.push_str("\"/>\n</svg>\n");
     };
     text.push_str("\"/>\n")?;
-    push_caption(alloc, text, picture, caption, dark)?;
+    push_caption(alloc, text, caption, dark, rows)?;
     text.push_str("</svg>\n")
 }
 
-/// Appends the text below the picture.
+/// Appends the lines of the text below the picture.
 fn push_caption(
     alloc: Global,
     text: &mut String,
-    picture: &Picture,
-    caption: &str,
+    caption: &Caption,
     dark: Option<Rgb>,
+    rows: usize,
 ) -> Result<(), AllocError>
-    ensures { OnOk result (string_bytes text.new
-        ≡ string_bytes text.old ++ caption_element caption.now dark (shown picture.now)) }
+    requires { rows ≤ MAX_COLUMNS }
+    ensures { OnOk result (string_bytes text.new ≡ string_bytes text.old
+        ++ caption_elements (block_of caption.now) dark rows) }
 {
-    let size = module_size(alloc, picture.columns(), caption)?;
+    let lines = caption.lines();
+    let size = hundredths(alloc, caption.size())?;
     let color = stroke(alloc, dark)?;
-    let start = caption_tag(alloc, picture.rows() + 3, &size, &color)?;
-    text.push_str(start.as_str())?;
-    push_escaped(text, caption)?;
+    for n in 0..lines.len() {
+        let tag = caption_tag(alloc, caption.line_row(rows, n), &size, &color)?;
+        push_line(text, &tag, &lines[n])?;
+    }
+    Ok(())
+}
+
+/// Appends a line of the text below the picture, after its tag.
+fn push_line(text: &mut String, tag: &str, line: &str) -> Result<(), AllocError>
+    ensures { OnOk result (string_bytes text.new
+        ≡ string_bytes text.old ++ tagged tag.now line.now) }
+{
+    text.push_str(tag)?;
+    push_escaped(text, line)?;
     text.push_str("</text>\n")
 }
 
-/// Returns the first tag of the text below the picture.
+/// Returns the first tag of a line of the text below the picture.
 #[tactic(auto, unfolding(crate::specs::Svg::caption_tag))]
 fn caption_tag(alloc: Global, y: usize, size: &str, color: &str) -> Result<String, AllocError>
     ensures { IfOk result (λ text. string_bytes text ≡ caption_tag y size.now color.now) }

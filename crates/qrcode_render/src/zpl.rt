@@ -12,11 +12,10 @@ ghost use Rattle.qrcode_render.specs.CompressedData.{AddsPiece};
 ghost use Rattle.qrcode_render.specs.Labels.{IsCompressedField, IsCompressedLabel};
 ghost use Rattle.qrcode_render.specs.Zpl.{field, field_head, hex_pair, hex_digit, zpl_text};
 ghost use Rattle.qrcode_render.specs.Zpl.{copies_command, field_count, field_rows, label_end};
-ghost use Rattle.qrcode_render.specs.Zpl.{label_text, nth_first, caption_field, field_byte};
-ghost use Rattle.qrcode_render.specs.Zpl.{field_data, label_captioned, text_head};
+ghost use Rattle.qrcode_render.specs.Zpl.{label_captioned, label_text, nth_first};
 
-use crate::caption::fitting;
 use crate::compressed::push_data;
+use crate::zpl_text::push_caption;
 use grid_pictures::bitmap::{write_row, zeros};
 use grid_pictures::picture::Picture;
 use picture_settings::bounds::FIELD_BYTES;
@@ -167,67 +166,6 @@ fn field_count(picture: &Picture) -> usize
     picture.height().div_ceil(field_rows(picture))
 }
 
-/// Appends the field of the text below the picture, if there is one.
-fn push_caption(
-    alloc: Global,
-    bytes: &mut Vec<u8>,
-    picture: &Picture,
-    at: (usize, usize),
-    caption: Option<&str>,
-) -> Result<(), AllocError>
-    requires { at.1 ≤ MAX_AT }
-    ensures { OnOk result (bytes.new.items ≡ bytes.old.items
-        ++ caption_field at (option_copied caption.entry) (shown picture.now)) }
-{
-    let Some(text) = caption else {
-        return Ok(());
-    };
-    let height = (3 * picture.scale()).max(10);
-    let width = fitting(height, picture.width(), text).max(10);
-    let head = text_head(alloc, at.0, at.1 + picture.height(), height, width)?;
-    bytes.extend_from_slice(head.as_bytes())?;
-    push_text(bytes, text.as_bytes())?;
-    bytes.extend_from_slice(b"^FS\n")
-}
-
-/// Returns the head of a field of text, up to the text.
-#[tactic(auto, unfolding(crate::specs::Zpl::text_head))]
-fn text_head(
-    alloc: Global,
-    x: usize,
-    y: usize,
-    height: usize,
-    width: usize,
-) -> Result<String, AllocError>
-    ensures { IfOk result (λ text. string_bytes text ≡ text_head x y height width) }
-{
-    format!(in alloc; "^FO{x},{y}^A0N,{height},{width}^FH^FD")
-}
-
-/// Appends the bytes of a text as a field has them.
-#[tactic(auto, using(crate::proofs::CaptionLemmas::field_texts))]
-fn push_text(bytes: &mut Vec<u8>, text: &[u8]) -> Result<(), AllocError>
-    ensures { OnOk result (bytes.new.items ≡ bytes.old.items ++ field_data text.now) }
-{
-    for i in 0..text.len() {
-        push_byte(bytes, text[i])?;
-    }
-    Ok(())
-}
-
-/// Appends a byte of a text, by its hexadecimal digits if it is a mark of a command.
-fn push_byte(bytes: &mut Vec<u8>, byte: u8) -> Result<(), AllocError>
-    ensures { OnOk result (bytes.new.items ≡ bytes.old.items ++ field_byte byte) }
-{
-    if byte == b'^' || byte == b'~' || byte == b'_' {
-        bytes.push(b'_')?;
-        bytes.push(hex_digit(byte / 16))?;
-        bytes.push(hex_digit(byte % 16))?;
-        return Ok(());
-    }
-    Ok(bytes.push(byte)?)
-}
-
 /// Appends the end of a label, after its number of copies.
 fn push_end(alloc: Global, bytes: &mut Vec<u8>, copies: Option<usize>) -> Result<(), AllocError>
     ensures { OnOk result (bytes.new.items ≡ bytes.old.items ++ label_end copies) }
@@ -333,7 +271,7 @@ pub(crate) fn write_hex(content: &[u8], digits: &mut [u8])
 }
 
 /// Returns a hexadecimal digit.
-fn hex_digit(digit: u8) -> u8
+pub(crate) fn hex_digit(digit: u8) -> u8
     requires { digit < 16 }
     ensures { result ≡ hex_digit digit }
 {

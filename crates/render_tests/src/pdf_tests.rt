@@ -121,6 +121,68 @@ startxref
 %%EOF
 ";
 
+/// 29 columns and 41 rows, of which 13 are those of the text: each line has 4, and one is left below
+/// the last. A module of 0.5 mm is 1.417323 points wide, and 4 modules are 2 mm. 12 characters of
+/// Courier, which are 2.4 modules wide, are in a line; 7 of them begin at (29 - 7 * 2.4) / 2 modules.
+const LINES: &[u8] = b"%PDF-1.4
+%\xE2\xE3\xCF\xD3
+1 0 obj
+<</Type/Catalog/Pages 2 0 R>>
+endobj
+3 0 obj
+<<>>
+endobj
+4 0 obj
+<</Type/Page/Parent 2 0 R/Resources<</Font<</F<</Type/Font/Subtype/Type1/BaseFont/Courier/Encoding/WinAnsiEncoding>>>>>>/MediaBox[0 0 41.103 58.111]/Contents 5 0 R>>
+endobj
+5 0 obj
+<</Length 224>>
+stream
+1 g 0 0 41.103 58.111 re f
+0 g
+1.417323 0 0 -1.417323 0 58.111 cm
+13 13 1 1 re
+15 13 1 1 re
+13 14 2 1 re
+f
+BT
+/F 4.00 Tf
+1 0 0 -1 0.10 32 Tm(\\(01\\)09506000)Tj
+1 0 0 -1 7.30 36 Tm(134352)Tj
+1 0 0 -1 6.10 40 Tm(\\(10\\)A'B)Tj
+ET
+endstream
+endobj
+2 0 obj
+<</Type/Pages/Resources<<>>/Kids[4 0 R ]/Count 1>>
+endobj
+xref
+0 6
+0000000000 65535 f 
+0000000015 00000 n 
+0000000534 00000 n 
+0000000060 00000 n 
+0000000080 00000 n 
+0000000261 00000 n 
+trailer
+<</Size 6/Root 1 0 R/Info 3 0 R>>
+startxref
+600
+%%EOF
+";
+
+/// pdftotext and Ghostscript read these three lines, and pdffonts finds the font.
+#[test]
+fn writes_lines_below_pdf(rt: HostRuntime) {
+    let alloc = rt.alloc();
+    let options = [
+        ("quiet", "13"),
+        ("module_mm", "0.5"),
+        ("caption", "(01)09506000134352\n(10)A'B\n"),
+    ];
+    assert!(rt; draws(alloc, &Pdf, &CELLS, (3, 2), &options, LINES));
+}
+
 /// The renderer takes a size in millimetres, a title and colours.
 #[test]
 fn draws_all_options_of_pdf(rt: HostRuntime) {

@@ -1,5 +1,6 @@
 -- The text below a symbol of elements.
-use Rattle.std.proofs.Common.{◌≡◌, ◌⊎◌, ℕ, ◌≤◌, Bool, true, false, List, length, refl, sym, subst, inl, inr}
+use Rattle.std.proofs.Common.{◌≡◌, ◌⊎◌, ℕ, ◌≤◌, Bool, true, false, List, [], ◌∷◌, ◌++◌, length, refl, sym, subst, inl, inr, ◌∙◌, ap, append-nil, flat_map}
+use Rattle.std.proofs.lemmas.Grind.{flat_map-append}
 use Rattle.std.specs.Prelude.{Result, Ok, Err, OnOk}
 use Rattle.std.specs.Str.{IsUtf8}
 use Rattle.gs1.specs.Checked.{AreAllowedElements}
@@ -17,6 +18,7 @@ use Rattle.label_words.specs.Choices.{is_link, has_elements}
 use Rattle.label_words.specs.declared.command.Content.{Content}
 use Rattle.label_words.specs.declared.command.Content.TheVariants.{Auto, Text, Bytes, BytesWithoutKanji, Gs1, UncheckedGs1, Link, Micro}
 use Rattle.label_words.specs.declared.command.Content.TheVariants.{MicroBytes}
+use Rattle.single_label.specs.Captions.{after_newline}
 use Rattle.single_label.specs.{Captions.IsSoundText, Captions.IsContentOf, Captions.is_written, Contents.IsSymbolAs, Contents.is_bracketed}
 use Rattle.single_label.specs.Contents.{IsNoUtf8}
 use Rattle.programs.specs.declared.Fault.TheVariants.{Symbol}
@@ -153,3 +155,8 @@ not_utf8 MicroBytes text e some written sound = λ wrong. absurd (not_both true 
 pub on_ok : {A E : Type 0} (P Q : Type 0) (r : Result A E) → (P → Q) → OnOk r P → OnOk r Q
 on_ok P Q (Ok a) more h = more h
 on_ok P Q (Err e) more h = tt
+
+-- one character more of a text of elements
+pub characters_more : (cs : List ℕ) (c : ℕ) → flat_map after_newline (cs ++ c ∷ []) ≡ flat_map after_newline cs ++ after_newline c
+characters_more cs c =
+    flat_map-append after_newline cs (c ∷ []) ∙ ap (λ l. flat_map after_newline cs ++ l) (append-nil (after_newline c))

@@ -4,3 +4,4 @@ pub mod MarkLemmas
 pub mod PartLemmas
 pub mod ShownLemmas
 pub mod StopLemmas
+pub mod TextLengths

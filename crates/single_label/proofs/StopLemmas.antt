@@ -1,6 +1,6 @@
 -- Why there is no label.
-use Rattle.std.proofs.Common.{◌≡◌, ◌≢◌, ◌⊎◌, ◌≤◌, ℕ, Bool, Some, List, [], length, inl, inr, true, false, refl, arith}
-use Rattle.std.specs.Prelude.{Result, Ok, Err, IfOk, IfErr}
+use Rattle.std.proofs.Common.{◌≡◌, ◌≢◌, ◌⊎◌, ◌<◌, ◌≤◌, ℕ, Bool, Some, List, [], length, inl, inr, true, false, refl, arith}
+use Rattle.std.specs.Prelude.{Result, Ok, Err, IfOk, IfErr, OnOk}
 use Rattle.programs.specs.declared.Fault.{Fault as FaultOf}
 use Rattle.programs.specs.declared.Fault.TheVariants.{Symbol, Read, Write}
 use Rattle.qrcode_core.specs.declared.options.SymbolOptions.{SymbolOptions}
@@ -19,10 +19,23 @@ use Rattle.single_label.specs.declared.stop.{Stop.Stop, Stop.TheVariants.Fault, 
 use Rattle.single_label.specs.declared.stop.{Stop.TheVariants.NoMicroText, Stop.TheVariants.TooLong, Stop.TheVariants.TooManyParts, Stop.TheVariants.TooManyPages}
 use Rattle.single_label.specs.declared.stop.TooLong.{TooLong as TooLongOf}
 use Rattle.single_label.specs.{Contents.IsStopAs, Contents.IsSymbolAs, Contents.IsNoUtf8, Contents.is_bracketed, Contents.AreNotWritten, Contents.IsLink, Contents.IsLinkStop}
-use Rattle.single_label.specs.{Labels.IsLabelStop, Labels.IsLabelData, Labels.IsContentStop, Labels.IsTextStop, Contents.is_too_long, Labels.details_label}
+use Rattle.single_label.specs.{Labels.IsLabelStop, Labels.IsLabelData, Labels.IsContentStop, Labels.IsTextStop, Contents.is_too_long, Contents.most_bytes, Labels.details_label}
 use Rattle.single_label.specs.{Parts.IsMessageStop, Parts.IsOtherStop, Rooms.IsTooLongAs, Rooms.IsTooLongForAny}
 use Rattle.label_words.specs.Choices.{gs1_content, is_link}
 use Rattle.single_label.specs.{Details.IsDetailsStop, Details.HasNoData, Labels.IsSaid}
+
+-- more bytes than a symbol holds
+pub many_bytes : (content : Content) (options : SymbolOptions) (bytes : List ℕ) → content ≢ Auto → LONGEST_DATA < length bytes →
+    IsStopAs content options bytes (Fault (Symbol DataTooLong))
+many_bytes Auto options bytes other many = absurd (other refl)
+many_bytes Text options bytes other many = inl (many, refl)
+many_bytes Bytes options bytes other many = inl (many, refl)
+many_bytes BytesWithoutKanji options bytes other many = inl (many, refl)
+many_bytes Gs1 options bytes other many = inl (many, refl)
+many_bytes UncheckedGs1 options bytes other many = inl (many, refl)
+many_bytes Link options bytes other many = inl (many, refl)
+many_bytes Micro options bytes other many = inl (many, refl)
+many_bytes MicroBytes options bytes other many = inl (many, refl)
 
 pub neither : (content : Content) (options : SymbolOptions) (bytes : List ℕ) (fault : FaultOf) → (fault ≡ Read) ⊎ (fault ≡ Write) →
     IsStopAs content options bytes (Fault fault) → ⊥
@@ -125,7 +138,7 @@ not_written true options bytes TooManyPages short bracketed h = absurd h
 not_written false options bytes TooManyParts short bracketed h = absurd h
 not_written false options bytes TooManyPages short bracketed h = absurd h
 
-has_no_data : (content : Content) (options : SymbolOptions) (bytes : List ℕ) (stop : Stop) → length bytes ≤ LONGEST_DATA → HasNoData content bytes stop →
+has_no_data : (content : Content) (options : SymbolOptions) (bytes : List ℕ) (stop : Stop) → length bytes ≤ most_bytes content → HasNoData content bytes stop →
     IsReason content options bytes stop
 has_no_data Gs1 options bytes stop short h = not_written true options bytes stop short h.0 h.1
 has_no_data UncheckedGs1 options bytes stop short h = not_written false options bytes stop short h.0 h.1
@@ -149,7 +162,7 @@ content_stop label content TooManyPages some short is not_empty not_long = (some
 content_stop label content Empty some short is not_empty not_long = absurd (not_empty refl)
 content_stop label content (TooLong t) some short is not_empty not_long = absurd (not_long t refl)
 
-pub no_details : (label : Label) (content : List ℕ) (stop : Stop) (grid : List Color) → length content ≤ LONGEST_DATA → IsLabelData label content →
+pub no_details : (label : Label) (content : List ℕ) (stop : Stop) (grid : List Color) → length content ≤ most_bytes label.content → IsLabelData label content →
     IsSymbolAs label.content label.symbol content grid → IsDetailsStop label (Some content) stop → IsContentStop label content stop
 no_details label content stop grid short some is (inl h) = rw h (some, refl, inl (refl, (grid, is)))
 no_details label content stop grid short some is (inr h) =
@@ -157,7 +170,7 @@ no_details label content stop grid short some is (inr h) =
     content_stop label content stop some reason.0 reason.1 reason.2 reason.3
 
 -- the same of a message
-pub message_no_details : (label : Label) (content : List ℕ) (stop : Stop) (grid : List Color) → length content ≤ LONGEST_DATA →
+pub message_no_details : (label : Label) (content : List ℕ) (stop : Stop) (grid : List Color) → length content ≤ most_bytes label.content →
     IsSymbolAs label.content label.symbol content grid → IsDetailsStop label (Some content) stop → IsOtherStop label content stop
 message_no_details label content stop grid short is (inl h) = rw h (refl, inl (refl, (grid, is)))
 message_no_details label content stop grid short is (inr h) =
@@ -238,6 +251,10 @@ if_err P Q (Err e) more h = more e h
 pub if_ok : {A E : Type 0} (P Q : A → Type 0) (r : Result A E) → ((a : A) → P a → Q a) → IfOk r P → IfOk r Q
 if_ok P Q (Ok a) more h = more a h
 if_ok P Q (Err e) more h = tt
+
+pub on_ok : {A E : Type 0} (P Q : Type 0) (r : Result A E) → (P → Q) → OnOk r P → OnOk r Q
+on_ok P Q (Ok a) more h = more h
+on_ok P Q (Err e) more h = tt
 
 pub too_long_is : (content : Content) (options : SymbolOptions) (bytes : List ℕ) (stop : Stop) → is_too_long stop ≡ true → IsStopAs content options bytes stop →
     IsStopAs content options bytes (Fault (Symbol DataTooLong))

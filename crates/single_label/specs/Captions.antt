@@ -1,5 +1,6 @@
 -- The text below the symbol of GS1 elements, or of a link of them.
-use Rattle.std.specs.Prelude.{◌≡◌, ◌⊎◌, ℕ, Bool, true, false, ◌&&◌, ◌||◌, List, Option, None, Some}
+use Rattle.std.specs.Prelude.{◌≡◌, ◌⊎◌, ℕ, Bool, true, false, ◌&&◌, ◌||◌, ◌==◌, not, if◌then◌else◌}
+use Rattle.std.specs.Prelude.{List, [], ◌∷◌, flat_map, chars, encode_utf8, Option, None, Some}
 use Rattle.std.specs.Str.{IsUtf8}
 use Rattle.gs1.specs.Checked.{AreAllowedElements}
 use Rattle.gs1.specs.Elements.{Element, bracketed}
@@ -9,7 +10,7 @@ use Rattle.label_words.specs.Choices.{is_link, has_elements}
 use Rattle.label_words.specs.declared.command.Content.{Content}
 use Rattle.label_words.specs.declared.command.Content.TheVariants.{Gs1, UncheckedGs1, Link}
 use Rattle.label_words.specs.declared.command.Label.{Label}
-use Rattle.single_label.specs.Contents.{is_bracketed}
+use Rattle.single_label.specs.Contents.{has_bracket, is_bracketed}
 
 -- A text is written in brackets, as that of a link always is.
 abbrev pub is_written : Content → List ℕ → Bool
@@ -24,12 +25,31 @@ AreBracketed content text written =
     ⊎ ((is_written content text ≡ false) × ((elements : List Element) × FindsOnly text elements
     × (written ≡ bracketed elements)))
 
--- The text below the symbol: the elements, if they are asked for and it is one of elements.
+-- A character, an opening bracket after a newline.
+abbrev pub after_newline : ℕ → List ℕ
+after_newline c = if c == 0x28 then 10 ∷ 0x28 ∷ [] else encode_utf8 c
+
+-- A text with a newline before each opening bracket.
+unfoldable pub element_lines : List ℕ → List ℕ
+element_lines text = flat_map after_newline (chars text)
+
+-- Each opening bracket begins an element: the text is written in brackets, or no value has one.
+abbrev pub begin_elements : Content → List ℕ → Bool
+begin_elements content text = is_written content text || not (has_bracket text)
+
+-- Elements with a newline before each, unless a value of an element string has an opening bracket.
+abbrev pub at_elements : Content → (text written : List ℕ) → List ℕ
+at_elements content text written =
+    if begin_elements content text then element_lines written else written
+
+-- The text below the symbol: the elements, if they are asked for and it is one of elements, with
+-- such newlines.
 abbrev pub IsCaption : Label → List ℕ → Option (List ℕ) → Type 0
 IsCaption label text caption =
     (((label.hri && has_elements label.content) ≡ false) × (caption ≡ None))
     ⊎ (((label.hri && has_elements label.content) ≡ true) × ((written : List ℕ)
-    × AreBracketed label.content text written × (caption ≡ Some written)))
+    × AreBracketed label.content text written
+    × (caption ≡ Some (at_elements label.content text written))))
 
 -- A text of which there is a symbol: an element string is sound, and that of a link is UTF-8.
 abbrev pub IsSoundText : Content → List ℕ → Type 0

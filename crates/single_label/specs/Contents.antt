@@ -28,6 +28,7 @@ use Rattle.qrcode_core.specs.declared.types.Color.{Color}
 use Rattle.qrcode_core.specs.declared.types.EcLevel.{EcLevel}
 use Rattle.qrcode_core.specs.declared.types.errors.QrError.{QrError}
 use Rattle.qrcode_core.specs.declared.types.errors.QrError.TheVariants.{DataTooLong, InvalidCharacter, OutOfMemory}
+use Rattle.single_label.specs.declared.content.TheConstants.{LONGEST_TEXT}
 use Rattle.single_label.specs.Faults.{IsFaultIn, IsWrittenAt, IsFoundAt}
 use Rattle.label_words.specs.declared.command.Content.{Content}
 use Rattle.label_words.specs.declared.command.Content.TheVariants.{Auto, Text, Bytes, Gs1, UncheckedGs1, Link, Micro}
@@ -266,6 +267,12 @@ HasText Auto bytes = IsBeyondAscii bytes
 HasText Micro bytes = IsUtf8 bytes
 HasText content bytes = ⊥
 
+-- How many bytes a content of a symbol has at most (ISO/IEC 18004:2006, table 7: 7089 characters).
+-- The smallest symbol of a text is made of its characters, each of at most four bytes in UTF-8.
+abbrev pub most_bytes : Content → ℕ
+most_bytes Auto = LONGEST_TEXT
+most_bytes _ = LONGEST_DATA
+
 -- The data are too long for a symbol.
 abbrev pub is_too_long : Stop → Bool
 is_too_long (Fault (Symbol DataTooLong)) = true
@@ -300,8 +307,10 @@ IsShortStop Link options bytes = IsErrorIn (IsOptionsRefusal options no_front by
 IsShortStop Micro options bytes = IsMicroTextStop options.level bytes
 IsShortStop MicroBytes options bytes = IsErrorIn (IsMicroRefused bytes options.level)
 
--- Why there is no symbol: there are more than 7089 bytes, or the call for the symbol fails.
+-- Why there is no symbol: there are more than 7089 bytes, or the call for the symbol fails. Where
+-- the symbol may be the smallest of a text, its call counts.
 abbrev pub IsStopAs : Content → SymbolOptions → List ℕ → Stop → Type 0
+IsStopAs Auto options bytes stop = IsShortStop Auto options bytes stop
 IsStopAs content options bytes stop =
     ((LONGEST_DATA < length bytes) × (stop ≡ Fault (Symbol DataTooLong)))
     ⊎ ((length bytes ≤ LONGEST_DATA) × IsShortStop content options bytes stop)

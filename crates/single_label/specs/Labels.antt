@@ -5,7 +5,6 @@ use Rattle.std.specs.Option.{option_copied}
 use Rattle.programs.specs.declared.Fault.TheVariants.{Symbol}
 use Rattle.qrcode_base.specs.declared.types.Color.{Color}
 use Rattle.qrcode_core.specs.Symbol.{DrawnSymbol, drawn_grid}
-use Rattle.qrcode_base.specs.declared.symbols.TheConstants.{LONGEST_DATA}
 use Rattle.qrcode_core.specs.declared.types.errors.QrError.TheVariants.{OutOfMemory, DataTooLong}
 use Rattle.qrcode_render.specs.Drawings.{IsPictureOf}
 use Rattle.picture_settings.specs.declared.draw_options.DrawOptions.{DrawOptions}
@@ -13,6 +12,7 @@ use Rattle.single_label.specs.Captions.{IsCaption}
 use Rattle.single_label.specs.Colors.{in_colors}
 use Rattle.label_words.specs.Choices.{is_link}
 use Rattle.single_label.specs.Contents.{IsShownOf, IsSymbolAs, IsStopAs, IsLink, IsLinkStop, is_too_long}
+use Rattle.single_label.specs.Contents.{most_bytes}
 use Rattle.single_label.specs.Rooms.{IsTooLongAs, IsTooLongForAny}
 use Rattle.single_label.specs.Details.{AreDetails}
 use Rattle.single_label.specs.Turns.{turned}
@@ -125,14 +125,14 @@ IsTextStop label text stop =
 
 -- There is no label of some content of the bytes, for this reason.
 pub record IsRefusedContent (label : Label) (bytes : List ℕ) (stop : Stop) : Type 0 where
-  pub short : length bytes ≤ LONGEST_DATA
+  pub short : length bytes ≤ most_bytes label.content
   pub text : List ℕ
   pub text_is : IsShownOf label.trims label.content bytes text
   pub stopped : IsTextStop label text stop
 
--- There are more bytes than one label takes.
+-- There are more bytes than a content of a symbol has.
 pub record IsManyBytes (label : Label) (bytes : List ℕ) (stop : Stop) : Type 0 where
-  pub many : LONGEST_DATA < length bytes
+  pub many : most_bytes label.content < length bytes
   pub too_long : TooLongOf
   pub is_too_long : IsTooLongForAny label too_long
   pub stop_is : stop ≡ TooLong too_long
@@ -151,6 +151,7 @@ AreDetailsBeside label shows bytes details =
     ((is_beside label.details ≡ true) × shows (details_label label) bytes details)
     ⊎ ((is_beside label.details ≡ false) × (details ≡ []))
 
--- Why there is no label of the bytes: they are more than 7089, or there is none of their content.
+-- Why there is no label of the bytes: they are more than a content of a symbol has, or there is none
+-- of their content.
 abbrev pub IsLabelStop : Label → List ℕ → Stop → Type 0
 IsLabelStop label bytes stop = IsManyBytes label bytes stop ⊎ IsRefusedContent label bytes stop

@@ -7,6 +7,7 @@ pub mod Element
 pub mod Labels
 pub mod OtherWays
 pub mod Pages
+pub mod PageSymbols
 pub mod Parts
 pub mod Rooms
 pub mod Turns

@@ -1,7 +1,7 @@
 -- A message in one symbol, or spread over several that carry it together (ISO/IEC 18004:2006,
 -- "Structured Append").
-use Rattle.std.specs.Prelude.{◌≡◌, ◌⊎◌, ◌<◌, ◌≤◌, ℕ, ⊤, nat_abs}
-use Rattle.std.specs.Prelude.{false, List, [], ◌∷◌, length, map, flat_map, None, Some, chars}
+use Rattle.std.specs.Prelude.{◌≡◌, ◌⊎◌, ◌<◌, ◌≤◌, ◌*◌, ℕ, ⊤, nat_abs}
+use Rattle.std.specs.Prelude.{false, List, [], ◌∷◌, length, map, flat_map, None, Some}
 use Rattle.std.specs.Str.{IsUtf8}
 use Rattle.programs.specs.declared.Fault.TheVariants.{Symbol}
 use Rattle.qrcode_bits.specs.declared.bits.front.Content.{Content as FrontContent}
@@ -17,16 +17,14 @@ use Rattle.picture_settings.specs.declared.draw_options.DrawOptions.{DrawOptions
 use Rattle.single_label.specs.Contents.{IsContent, IsPlain, IsBeyondAscii, IsNoUtf8, IsSymbolAs}
 use Rattle.single_label.specs.Contents.{IsStopAs}
 use Rattle.single_label.specs.Labels.{IsLabelData, IsNotDrawn, ShowsSymbol}
-use Rattle.single_label.specs.Contents.{is_too_long}
+use Rattle.single_label.specs.Contents.{is_too_long, most_bytes}
 use Rattle.label_words.specs.declared.command.Content.{Content}
 use Rattle.label_words.specs.declared.command.Content.TheVariants.{Auto, Text, Bytes}
 use Rattle.label_words.specs.declared.command.Label.{Label}
-use Rattle.single_label.specs.declared.parts.TheConstants.{LONGEST_MESSAGE}
 use Rattle.single_label.specs.declared.stop.Stop.{Stop}
 use Rattle.single_label.specs.declared.stop.Stop.TheVariants.{Fault, Empty, TooManyParts}
 use Rattle.text_cuts.specs.TextCuts.{AreBestTextCuts, IsTextCutsRefusal}
 use Rattle.text_sequences.specs.TextMessages.{AreSmallestTextSymbols, IsTextSequenceRefusal}
-use Rattle.text_symbols.specs.TextHeadline.{IsTextAsAsked, IsTextRefused}
 
 -- ---- Several symbols
 
@@ -66,27 +64,11 @@ IsSmallestSequenceFault options text error =
     ⊎ ((cuts : List ℕ) × AreBestTextCuts text options.level (nat_abs options.max_version) cuts
     × IsTextSequenceRefusal text cuts options.level options.max_version error)
 
--- The smallest symbol of a text, if one holds it, else those of its fewest parts.
-pub record IsOneSmallest (options : SymbolOptions) (text : List ℕ) (grids : List (List Color)) :
-    Type 0 where
-  pub grid : List Color
-  pub grids_are : grids ≡ grid ∷ []
-  pub asked : IsTextAsAsked options (chars text) grid
-
-abbrev pub AreSmallestSymbols : SymbolOptions → List ℕ → List (List Color) → Type 0
-AreSmallestSymbols options text grids =
-    IsOneSmallest options text grids
-    ⊎ (IsTextRefused options (chars text) DataTooLong × IsSmallestSequence options text grids)
-
-abbrev pub AreNoSmallestSymbols : SymbolOptions → List ℕ → QrError → Type 0
-AreNoSmallestSymbols options text error =
-    IsTextRefused options (chars text) error ⊎ IsSmallestSequenceFault options text error
-
 -- The grids carry the message together, by what it is.
 abbrev pub IsSequenceAs : Content → SymbolOptions → List ℕ → List (List Color) → Type 0
 IsSequenceAs Auto options message grids =
     (IsPlain message × IsSequenceOf BytesFront options message grids)
-    ⊎ (IsBeyondAscii message × AreSmallestSymbols options message grids)
+    ⊎ (IsBeyondAscii message × IsSmallestSequence options message grids)
 IsSequenceAs Text options message grids = IsTextSequence options message grids
 IsSequenceAs Bytes options message grids = IsSequenceOf BytesFront options message grids
 IsSequenceAs other options message grids = ⊥
@@ -94,7 +76,7 @@ IsSequenceAs other options message grids = ⊥
 abbrev pub IsSequenceFaultAs : Content → SymbolOptions → List ℕ → QrError → Type 0
 IsSequenceFaultAs Auto options message error =
     (IsPlain message × IsSequenceFault BytesFront options message error)
-    ⊎ (IsBeyondAscii message × AreNoSmallestSymbols options message error)
+    ⊎ (IsBeyondAscii message × IsSmallestSequenceFault options message error)
 IsSequenceFaultAs Text options message error = IsTextFault options message error
 IsSequenceFaultAs Bytes options message error = IsSequenceFault BytesFront options message error
 IsSequenceFaultAs other options message error = error ≡ DataTooLong
@@ -167,9 +149,13 @@ IsOtherStop label content stop =
 abbrev pub IsEmptyStop : Label → List ℕ → Stop → Type 0
 IsEmptyStop label content stop = (stop ≡ Empty) × (content ≡ []) × (label.allow_empty ≡ false)
 
+-- How many bytes the content of a sequence of symbols has at most: it has 16 of them.
+abbrev pub most_together : Content → ℕ
+most_together content = 16 * most_bytes content
+
 -- There are no labels of some content of the bytes, for this reason.
 pub record IsRefusedMessage (label : Label) (bytes : List ℕ) (stop : Stop) : Type 0 where
-  pub short : length bytes ≤ LONGEST_MESSAGE
+  pub short : length bytes ≤ most_together label.content
   pub content : List ℕ
   pub content_is : IsContent label.trims bytes content
   pub stopped :
@@ -180,7 +166,8 @@ pub record IsRefusedMessage (label : Label) (bytes : List ℕ) (stop : Stop) : T
 -- its content.
 abbrev pub IsMessageStop : Label → List ℕ → Stop → Type 0
 IsMessageStop label bytes stop =
-    ((stop ≡ TooManyParts) × (LONGEST_MESSAGE < length bytes)) ⊎ IsRefusedMessage label bytes stop
+    ((stop ≡ TooManyParts) × (most_together label.content < length bytes))
+    ⊎ IsRefusedMessage label bytes stop
 
 -- One drawing after the other.
 abbrev pub all_drawings : List (List ℕ) → List ℕ

@@ -24,7 +24,7 @@ pub fn elements_text(alloc: Global, bytes: &[u8]) -> Result<Vec<u8>, AllocError>
 }
 
 /// Whether a value has an opening bracket, which begins an element in a text.
-fn has_bracket(bytes: &[u8]) -> bool
+pub fn has_bracket(bytes: &[u8]) -> bool
     ensures { result ≡ has_bracket bytes.now }
 {
     bytes.iter().any(|byte| *byte == b'(')

@@ -1,5 +1,5 @@
 //! The text below the symbol of GS1 elements, or of a link of them.
-ghost use Rattle.std.specs.Prelude.{◌≡◌, ◌⊎◌, List, true, IfOk, IfErr};
+ghost use Rattle.std.specs.Prelude.{◌≡◌, ◌⊎◌, ◌++◌, List, true, IfOk, IfErr, OnOk};
 ghost use Rattle.std.specs.Option.{option_copied, option_map};
 ghost use Rattle.std.specs.Str.{IsUtf8};
 ghost use Rattle.std.specs.String.{string_bytes};
@@ -9,8 +9,10 @@ ghost use Rattle.gs1.specs.Reader.{FindsOnly};
 ghost use Rattle.gs1.specs.Strings.{AreFaultless};
 ghost use Rattle.label_words.specs.Choices.{has_elements};
 ghost use Rattle.single_label.specs.Captions.{AreBracketed, IsCaption, IsSoundText, is_written};
+ghost use Rattle.single_label.specs.Captions.{after_newline, at_elements, element_lines};
 ghost use Rattle.single_label.specs.Details.{IsDetailsStopOf};
 
+use crate::apart::has_bracket;
 use crate::content::{is_bracketed, utf8_of};
 use crate::stop::Stop;
 use gs1::string_brackets;
@@ -74,8 +76,50 @@ fn bracketed_text(alloc: Global, content: Content, text: &[u8]) -> Result<String
     Ok(read_text(alloc, text)?)
 }
 
+/// Returns a text with a newline before each opening bracket, which begins an element. It fails only
+/// for lack of memory.
+#[tactic(auto, unfolding(crate::specs::Captions::element_lines))]
+fn element_lines(alloc: Global, text: &str) -> Result<String, AllocError>
+    ensures { IfOk result (λ lines. string_bytes lines ≡ element_lines text.now) }
+{
+    let mut lines = String::new(alloc);
+    for c in text.chars() {
+        push_character(&mut lines, c)?;
+    }
+    Ok(lines)
+}
+
+/// Appends a character, an opening bracket after a newline.
+fn push_character(lines: &mut String, c: char) -> Result<(), AllocError>
+    ensures { OnOk result
+        (string_bytes lines.new ≡ string_bytes lines.old ++ after_newline c) }
+{
+    if c == '(' {
+        lines.push('\n')?;
+    }
+    lines.push(c)
+}
+
+/// Returns the elements of a text with a newline before each, unless a value of an element string
+/// has an opening bracket. It fails only for lack of memory.
+fn broken_at_elements(
+    alloc: Global,
+    content: Content,
+    text: &[u8],
+    elements: String,
+) -> Result<String, AllocError>
+    ensures { IfOk result (λ lines.
+        string_bytes lines ≡ at_elements content text.now (string_bytes elements)) }
+{
+    if is_written(content, text) || !has_bracket(text) {
+        return element_lines(alloc, &elements);
+    }
+    Ok(elements)
+}
+
 /// Returns the text below the symbol of a text: its elements, if they are asked for and the content
-/// is of elements. It fails as `bracketed_text` does.
+/// is of elements, each on a line of its own. An element string with an opening bracket in a value
+/// is one line. It fails as `bracketed_text` does.
 pub fn caption_of(alloc: Global, label: &Label, text: &[u8]) -> Result<Option<String>, Stop>
     requires { IsSoundText label.now.content text.now }
     ensures caption { IfOk result (λ caption.
@@ -85,8 +129,8 @@ pub fn caption_of(alloc: Global, label: &Label, text: &[u8]) -> Result<Option<St
     if !(label.hri && has_elements(label.content)) {
         return Ok(None);
     }
-    let text = bracketed_text(alloc, label.content, text)?;
-    Ok(Some(text))
+    let elements = bracketed_text(alloc, label.content, text)?;
+    Ok(Some(broken_at_elements(alloc, label.content, text, elements)?))
 }
 
 /// Returns the text, if there is one.

@@ -10,7 +10,7 @@ ghost use Rattle.single_label.specs.Contents.{AreSound, AreNotSound, IsLink, IsL
 ghost use Rattle.single_label.specs.Contents.{without_mark, without_newline, IsContent};
 ghost use Rattle.single_label.specs.Contents.{IsMicroText, IsMicroTextStop, HasText};
 ghost use Rattle.single_label.specs.Contents.{IsStringSymbol, IsStringStop};
-ghost use Rattle.single_label.specs.Contents.{IsCheckedSymbol, IsCheckedStop};
+ghost use Rattle.single_label.specs.Contents.{IsCheckedSymbol, IsCheckedStop, most_bytes};
 ghost use Rattle.std.specs.Io.BufRead.{strip_last};
 
 use crate::apart::check_apart;
@@ -27,8 +27,25 @@ use qrcode_core::types::{EcLevel, QrError, QrResult};
 use std::alloc::Global;
 use text_symbols::{MicroTextError, micro_text, smallest_text};
 
+/// No symbol holds a text of more bytes: it has at most 7089 characters, each of at most four bytes.
+pub const LONGEST_TEXT: usize = 4 * LONGEST_DATA;
+
+/// Returns how many bytes the content of a symbol has at most: 7089, or where the symbol may be the
+/// smallest of a text, four for each of 7089 characters.
+pub fn most_bytes(content: Content) -> usize
+    ensures is { result ≡ most_bytes content }
+    ensures least { LONGEST_DATA ≤ result }
+    ensures most { result ≤ LONGEST_TEXT }
+{
+    match content {
+        Content::Auto => LONGEST_TEXT,
+        _ => LONGEST_DATA,
+    }
+}
+
 /// Returns the symbol of the bytes, at the level and in the versions of the options. There is none
-/// of more than 7089 bytes. For `Link` the bytes are the link.
+/// of more than 7089 bytes, or of more than 7089 characters of a text for `Auto`. For `Link` the
+/// bytes are the link.
 pub fn content_symbol(
     alloc: Global,
     content: Content,
@@ -37,14 +54,12 @@ pub fn content_symbol(
 ) -> Result<Symbol, Stop>
     ensures symbol { IfOk result (λ symbol.
         IsSymbolAs content options.now bytes.now symbol.modules) }
-    ensures limit { OnOk result (length bytes.now ≤ LONGEST_DATA) }
+    ensures limit { OnOk result (length bytes.now ≤ most_bytes content) }
     ensures refusal { IfErr result (IsStopAs content options.now bytes.now) }
 {
-    if bytes.len() > LONGEST_DATA {
-        return Err(Stop::from(QrError::DataTooLong));
-    }
     match content {
         Content::Auto => Ok(auto_symbol(alloc, options, bytes)?),
+        _ if bytes.len() > LONGEST_DATA => Err(Stop::from(QrError::DataTooLong)),
         Content::Text => Ok(text_symbol(alloc, options, bytes)?),
         Content::Bytes | Content::Link => Ok(Symbol::bytes_with(alloc, bytes, options)?),
         Content::BytesWithoutKanji => Ok(bytes_without_kanji(alloc, bytes, options)?),
@@ -100,6 +115,7 @@ pub fn text_of(content: Content, bytes: &[u8]) -> Option<&str>
 /// as they are.
 fn auto_symbol(alloc: Global, options: &SymbolOptions, bytes: &[u8]) -> QrResult<Symbol>
     ensures symbol { IfOk result (λ symbol. IsAutoSymbol options.now bytes.now symbol.modules) }
+    ensures limit { OnOk result (length bytes.now ≤ LONGEST_TEXT) }
     ensures refusal { IfErr result (IsAutoRefusal options.now bytes.now) }
 {
     if is_ascii(bytes) {

@@ -1,10 +1,9 @@
 //! From bytes to the label of their symbol.
 ghost use Rattle.std.specs.Prelude.{◌≡◌, ◌≢◌, ◌≤◌, ◌⊎◌, ℕ, List, [], length, true, IfOk, IfErr, OnOk};
 ghost use Rattle.std.specs.Option.{option_copied};
-ghost use Rattle.qrcode_base.specs.declared.symbols.TheConstants.{LONGEST_DATA};
 ghost use Rattle.single_label.specs.Labels.{ShowsLabel, ShowsSymbol, IsSymbolPicture, IsLabelStop};
 ghost use Rattle.single_label.specs.Labels.{AreDetailsBeside, details_label};
-ghost use Rattle.single_label.specs.Contents.{is_too_long};
+ghost use Rattle.single_label.specs.Contents.{is_too_long, most_bytes};
 ghost use Rattle.single_label.specs.Labels.{ShowsContent, IsLabelData, IsContentStop, IsCaptioned};
 ghost use Rattle.single_label.specs.Captions.{IsContentOf};
 ghost use Rattle.label_words.specs.Choices.{is_link};
@@ -14,7 +13,7 @@ ghost use Rattle.single_label.specs.Details.{IsDetailsStop};
 use crate::apart::shown_of;
 use crate::caption::{caption_of, text_in};
 use crate::colors::in_colors;
-use crate::content::{content_symbol, link_of};
+use crate::content::{content_symbol, link_of, most_bytes};
 use crate::details::symbol_text;
 use crate::room::{too_long_at_level, too_long_for_any};
 use crate::shown::{Said, Shown};
@@ -22,16 +21,15 @@ use crate::stop::Stop;
 use crate::turned::draw_turned;
 use label_words::{Content, Details, Label};
 use programs::Fault;
-use qrcode_base::symbols::LONGEST_DATA;
 use qrcode_core::symbol::Symbol;
 use qrcode_core::types::QrError;
 use qrcode_render::DrawOptions;
 use std::alloc::{AllocError, Global};
 
 /// Returns the label of the bytes: what it shows of the symbol of their content, or of the link of
-/// the elements that this writes. It fails with `TooLong` where there are more than 7089 bytes,
-/// with `Empty` where there is no content and the label is not to be drawn then, and else as
-/// `link_label` or `content_label` does.
+/// the elements that this writes. It fails with `TooLong` where there are more bytes than
+/// `most_bytes`, with `Empty` where there is no content and the label is not to be drawn then, and
+/// else as `link_label` or `content_label` does.
 pub fn label_bytes<S: Shown>(
     alloc: Global,
     label: &Label,
@@ -41,10 +39,10 @@ pub fn label_bytes<S: Shown>(
     requires { S.allowed label.now options.now }
     ensures drawn { IfOk result (λ shown. ShowsLabel label.now options.now bytes.now
         (S.drawing label.now options.now shown)) }
-    ensures limit { OnOk result (length bytes.now ≤ LONGEST_DATA) }
+    ensures limit { OnOk result (length bytes.now ≤ most_bytes label.now.content) }
     ensures refusal { IfErr result (IsLabelStop label.now bytes.now) }
 {
-    if bytes.len() > LONGEST_DATA {
+    if bytes.len() > most_bytes(label.content) {
         return Err(Stop::TooLong(too_long_for_any(label, bytes)));
     }
     let content = shown_of(label.trims, label.content, bytes);
@@ -133,7 +131,7 @@ pub fn symbol_label(
 }
 
 /// Returns the options of a picture with a text below it, if it is given.
-fn captioned<'a>(options: &DrawOptions<'a>, caption: Option<&'a str>) -> DrawOptions<'a>
+pub(crate) fn captioned<'a>(options: &DrawOptions<'a>, caption: Option<&'a str>) -> DrawOptions<'a>
     ensures { IsCaptioned options.now (option_copied caption.entry) result }
 {
     let Some(text) = caption else {

@@ -29,10 +29,10 @@ mod text_details;
 mod turned;
 mod widths;
 
+pub use content::most_bytes;
 pub use element::element_number;
 pub use label::{details_bytes, label_bytes};
-pub use parts::{LONGEST_MESSAGE, details_message, message_labels, message_text};
-pub use shown::{PageSymbol, Said, Shown, are_pages};
+pub use parts::{details_message, message_labels, message_text, most_together};
+pub use shown::{PageSymbol, Said, Shown, are_pages, page_drawn};
 pub use stop::{ElementStop, Stop, TextLength, TooLong};
-pub use turned::page_turned;
 pub use widths::physical_width;

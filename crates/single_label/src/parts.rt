@@ -1,11 +1,10 @@
 //! From a message to the labels of the symbols that carry it together (ISO/IEC 18004:2006,
 //! "Structured Append").
-ghost use Rattle.std.specs.Prelude.{◌≡◌, ◌⊎◌, ◌≤◌, ℕ, List, [], ◌∷◌, length, map, vec_items, Some, IfOk, IfErr, OnOk};
+ghost use Rattle.std.specs.Prelude.{◌≡◌, ◌⊎◌, ◌≤◌, ◌*◌, ℕ, List, [], ◌∷◌, length, map, vec_items, Some, IfOk, IfErr, OnOk};
 ghost use Rattle.qrcode_bits.specs.declared.bits.front.Content.TheVariants.{Bytes};
 ghost use Rattle.qrcode_core.specs.Symbol.{modules_of};
 ghost use Rattle.single_label.specs.Parts.{IsSequenceOf, IsSequenceFault, IsTextSequence};
 ghost use Rattle.single_label.specs.Parts.{IsSmallestSequence, IsSmallestSequenceFault};
-ghost use Rattle.single_label.specs.Parts.{AreSmallestSymbols, AreNoSmallestSymbols};
 ghost use Rattle.single_label.specs.Parts.{IsTextFault, IsSequenceAs, IsSequenceFaultAs, ShowEach};
 ghost use Rattle.single_label.specs.Parts.{ShowMessage, AreLabelsTogether, ShowsMessage};
 ghost use Rattle.single_label.specs.Labels.{ShowsSymbol, AreDetailsBeside};
@@ -14,13 +13,14 @@ ghost use Rattle.programs.specs.declared.Fault.TheVariants.{Symbol as SymbolFaul
 ghost use Rattle.qrcode_core.specs.declared.types.errors.QrError.TheVariants.{OutOfMemory};
 ghost use Rattle.single_label.specs.declared.stop.Stop.TheVariants.{Fault as FaultStop};
 ghost use Rattle.single_label.specs.Parts.{AreNotDrawn, IsPartsStop, IsMessageStop, all_drawings};
+ghost use Rattle.single_label.specs.Parts.{most_together};
+ghost use Rattle.single_label.specs.declared.content.TheConstants.{LONGEST_TEXT};
 
-use crate::content::{content_of, content_symbol, is_ascii, utf8_of};
+use crate::content::{LONGEST_TEXT, content_of, content_symbol, is_ascii, most_bytes, utf8_of};
 use crate::label::{details_label, is_too_long, symbol_label};
 use crate::shown::Said;
 use crate::stop::Stop;
 use label_words::{Content, Details, Label};
-use qrcode_base::symbols::LONGEST_DATA;
 use qrcode_core::options::SymbolOptions;
 use qrcode_core::symbol::{Symbol, best_cuts, best_text_cuts};
 use qrcode_core::types::{QrError, QrResult};
@@ -28,10 +28,14 @@ use qrcode_render::DrawOptions;
 use std::alloc::{AllocError, Global};
 use text_cuts::smallest_text_cuts;
 use text_sequences::smallest_text_sequence;
-use text_symbols::smallest_text;
 
-/// No sequence of symbols holds more bytes: it has at most 16.
-pub const LONGEST_MESSAGE: usize = 16 * LONGEST_DATA;
+/// Returns how many bytes the content of a sequence of symbols has at most: it has 16 of them.
+pub fn most_together(content: Content) -> usize
+    ensures is { result ≡ most_together content }
+    ensures bounded { result ≤ 16 * LONGEST_TEXT }
+{
+    16 * most_bytes(content)
+}
 
 /// Returns the symbols of the fewest parts of a message of bytes, as the options ask for them. It
 /// fails with `DataTooLong` if 16 symbols do not hold it, and with `OutOfMemory`.
@@ -67,32 +71,6 @@ fn smallest_parts(alloc: Global, options: &SymbolOptions, text: &str) -> QrResul
     smallest_text_sequence(alloc, text, &cuts, options.level, options.max_version)
 }
 
-/// Returns a list of one symbol. It fails with `OutOfMemory`.
-fn alone(alloc: Global, symbol: Symbol) -> QrResult<Vec<Symbol>>
-    ensures alone { IfOk result (λ symbols.
-        map modules_of symbols.items ≡ modules_of symbol ∷ []) }
-    ensures memory { IfErr result (λ e. e ≡ QrError.OutOfMemory) }
-{
-    let mut symbols = Vec::new(alloc);
-    symbols.push(symbol)?;
-    Ok(symbols)
-}
-
-/// Returns the smallest symbol of a text, or where none holds it those of its fewest parts. In UTF-8
-/// a text that a symbol holds may have more than 7089 bytes. It fails as `smallest_text` does, and
-/// then as `smallest_parts`.
-fn smallest_symbols(alloc: Global, options: &SymbolOptions, text: &str) -> QrResult<Vec<Symbol>>
-    ensures symbols { IfOk result (λ symbols.
-        AreSmallestSymbols options.now text.now (map modules_of symbols.items)) }
-    ensures refusal { IfErr result (AreNoSmallestSymbols options.now text.now) }
-{
-    match smallest_text(alloc, text, options) {
-        Ok(symbol) => alone(alloc, symbol),
-        Err(QrError::DataTooLong) => smallest_parts(alloc, options, text),
-        Err(error) => Err(error),
-    }
-}
-
 /// Returns the symbols of the fewest parts of a message: the smallest of a text, if the bytes are
 /// UTF-8 and not ASCII, else those of bytes.
 fn auto_sequence(alloc: Global, options: &SymbolOptions, bytes: &[u8]) -> QrResult<Vec<Symbol>>
@@ -104,7 +82,7 @@ fn auto_sequence(alloc: Global, options: &SymbolOptions, bytes: &[u8]) -> QrResu
         return bytes_sequence(alloc, options, bytes);
     }
     match utf8_of(bytes) {
-        Ok(text) => smallest_symbols(alloc, options, text),
+        Ok(text) => smallest_parts(alloc, options, text),
         Err(_) => bytes_sequence(alloc, options, bytes),
     }
 }
@@ -174,9 +152,9 @@ fn sequence_labels(
 }
 
 /// Returns the labels of a message: one, if a symbol holds its content, or those of the fewest
-/// symbols that carry it together. It fails with `TooManyParts` where 16 symbols do not hold it,
-/// with `Empty` where there is no content and the label is not to be drawn then, and else as
-/// `content_symbol` does.
+/// symbols that carry it together. It fails with `TooManyParts` where 16 symbols do not hold it, as
+/// they do not hold more bytes than `most_together`, with `Empty` where there is no content and the
+/// label is not to be drawn then, and else as `content_symbol` does.
 pub fn message_labels(
     alloc: Global,
     label: &Label,
@@ -185,10 +163,10 @@ pub fn message_labels(
 ) -> Result<Vec<Vec<u8>>, Stop>
     ensures shown { IfOk result (λ drawings. ShowMessage label.now options.now bytes.now
         (map vec_items drawings.items)) }
-    ensures limit { OnOk result (length bytes.now ≤ LONGEST_MESSAGE) }
+    ensures limit { OnOk result (length bytes.now ≤ most_together label.now.content) }
     ensures refusal { IfErr result (IsMessageStop label.now bytes.now) }
 {
-    if bytes.len() > LONGEST_MESSAGE {
+    if bytes.len() > most_together(label.content) {
         return Err(Stop::TooManyParts);
     }
     let content = content_of(label.trims, bytes);
@@ -234,7 +212,7 @@ pub fn message_text(
     bytes: &[u8],
 ) -> Result<Vec<u8>, Stop>
     ensures shown { IfOk result (λ text. ShowsMessage label.now options.now bytes.now text.items) }
-    ensures limit { OnOk result (length bytes.now ≤ LONGEST_MESSAGE) }
+    ensures limit { OnOk result (length bytes.now ≤ most_together label.now.content) }
     ensures refusal { IfErr result (λ stop. (stop ≡ FaultStop (SymbolFault OutOfMemory))
         ⊎ IsMessageStop label.now bytes.now stop) }
 {

@@ -146,7 +146,7 @@ fn too_long(
     }
 }
 
-/// Returns why there is no label of more than 7089 bytes.
+/// Returns why there is no label of more bytes than a content of a symbol has.
 pub fn too_long_for_any(label: &Label, bytes: &[u8]) -> TooLong
     requires { LONGEST_DATA < length bytes.now }
     ensures { IsTooLongForAny label.now result }

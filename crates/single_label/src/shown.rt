@@ -1,18 +1,24 @@
 //! What a label shows of a symbol: its picture or its details, or its page in a document.
-ghost use Rattle.std.specs.Prelude.{◌≡◌, ℕ, ⊤, List, Option, true, IfOk, IfErr};
-ghost use Rattle.std.specs.Option.{option_copied};
+ghost use Rattle.std.specs.Prelude.{◌≡◌, ◌<◌, ℕ, ⊤, List, Option, true, IfOk, IfErr, OnOk, Err};
+ghost use Rattle.std.specs.Option.{option_copied, option_map};
+ghost use Rattle.std.specs.String.{string_bytes};
 ghost use Rattle.picture_settings.specs.declared.draw_options.DrawOptions.{DrawOptions};
 ghost use Rattle.single_label.specs.Details.{IsDetailsStop};
-ghost use Rattle.single_label.specs.Labels.{ShowsSymbol};
+ghost use Rattle.single_label.specs.Labels.{IsCaptioned, ShowsSymbol};
+ghost use Rattle.qrcode_render.specs.PdfPagesWritten.{after_page, next_page};
+ghost use Rattle.picture_settings.specs.declared.bounds.TheConstants.{MAX_PDF};
 ghost use Rattle.single_label.specs.Pages.{are_pages, page_alone, page_of_symbol};
+ghost use Rattle.single_label.specs.PageSymbols.{page_shown};
 ghost use Rattle.label_words.specs.declared.command.Label.{Label};
 
-use crate::label::symbol_label;
+use crate::caption::text_in;
+use crate::label::{captioned, symbol_label};
 use crate::stop::Stop;
+use crate::turned::page_turned;
 use label_words::{Details, Label};
 use qrcode_core::symbol::Symbol;
-use qrcode_render::{DrawOptions, Format};
-use std::alloc::Global;
+use qrcode_render::{DrawOptions, Format, PdfError, PdfPages};
+use std::alloc::{AllocError, Global};
 
 /// What a symbol says, and what is written below it.
 #[derive(Clone, Copy, Debug, PartialEq, Eq)]
@@ -63,10 +69,11 @@ impl Shown for Vec<u8> {
     }
 }
 
-/// The symbol of a label that is a page.
+/// The symbol of a label that is a page, and the text below it, if there is one.
 #[derive(Drop)]
 pub struct PageSymbol {
     pub symbol: Symbol,
+    pub caption: Option<String>,
 }
 
 /// The label is the document of its page alone.
@@ -74,16 +81,18 @@ impl Shown for PageSymbol {
     ghost allowed = { λ label options. are_pages label options ≡ true };
 
     ghost drawing = { λ label options page.
-        page_alone (option_copied options.title) (page_of_symbol label options page.symbol) };
+        page_alone (option_copied options.title) (page_of_symbol label options
+        (option_map string_bytes page.caption) page.symbol) };
 
     fn of_symbol(
-        _alloc: Global,
+        alloc: Global,
         _label: &Label,
         _options: &DrawOptions,
-        _said: Said<'_>,
+        said: Said<'_>,
         symbol: Symbol,
     ) -> Result<PageSymbol, Stop> {
-        Ok(PageSymbol { symbol })
+        let caption = text_copied(alloc, said.caption)?;
+        Ok(PageSymbol { symbol, caption })
     }
 }
 
@@ -92,4 +101,41 @@ pub fn are_pages(label: &Label, options: &DrawOptions) -> bool
     ensures { result ≡ are_pages label.now options.now }
 {
     options.format == Format::Pdf && label.details != Details::Alone && !label.colored
+}
+
+/// Returns a copy of a text, if there is one. It fails only for lack of memory.
+fn text_copied(alloc: Global, text: Option<&str>) -> Result<Option<String>, AllocError>
+    ensures { IfOk result (λ copy. option_map string_bytes copy ≡ option_copied text.entry) }
+{
+    match text {
+        Some(text) => Ok(Some(String::from_str(alloc, text)?)),
+        None => Ok(None),
+    }
+}
+
+/// Returns the next page of a document, which shows a symbol as the label says, with the text below
+/// it. It fails as `PdfPages::page` does.
+pub fn page_drawn(
+    alloc: Global,
+    label: &Label,
+    options: &DrawOptions,
+    page: &PageSymbol,
+    pages: &mut PdfPages,
+) -> Result<Vec<u8>, PdfError>
+    ensures page { IfOk result (λ bytes. bytes.items
+        ≡ next_page pages.old (page_shown label.now options.now page.now)) }
+    ensures after { OnOk result
+        (pages.new ≡ after_page pages.old (page_shown label.now options.now page.now)) }
+    ensures no_room { result ≡ Err PdfError.TooLong →
+        MAX_PDF < (after_page pages.old (page_shown label.now options.now page.now)).size }
+{
+    let options = page_options(options, page);
+    page_turned(alloc, &page.symbol, label.turn, &options, pages)
+}
+
+/// Returns the options of a page, with the text below its symbol, if there is one.
+fn page_options<'a>(options: &DrawOptions<'a>, page: &'a PageSymbol) -> DrawOptions<'a>
+    ensures { IsCaptioned options.now (option_map string_bytes page.now.caption) result }
+{
+    captioned(options, text_in(&page.caption))
 }

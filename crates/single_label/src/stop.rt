@@ -48,7 +48,7 @@ pub struct ElementStop {
 /// A content that is too long for a symbol.
 #[derive(Clone, Copy, Debug, PartialEq, Eq)]
 pub struct TooLong {
-    /// The number of its bytes; if it is more than 7089, there may be more of them.
+    /// The number of its bytes; if it is more than `most_bytes`, there may be more of them.
     pub length: usize,
     /// The greatest version that the symbol could have.
     pub version: Version,

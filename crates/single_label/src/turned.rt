@@ -127,5 +127,5 @@ pub fn page_turned(
     let Some(picture) = view_picture(&view, options) else {
         unreachable!();
     };
-    pages.picture(alloc, &picture, options.module_um, options.colors)
+    pages.drawn(alloc, &picture, options)
 }

@@ -136,6 +136,30 @@ module _ (manner : Manner) (message : List ℕ) (level : EcLevel) (limit : ℕ) 
       pub none_at_all : (more : List ℕ) → Fitting 0 more → 16 ≤ length more
       none_at_all more h = let w = known.others more h in absurd (nothing_fits w.0 w.1)
 
+    -- A character that does not fit by itself stands in some part.
+    module _ (i : ℕ) (inside : i + 1 < length places) (alone : TooLong (at i) (at (i + 1))) where
+      past_it : (x : ℕ) → at (i + 1) ≤ x → TooLong (at i) x
+      past_it x past = later_too_long (at i) (at (i + 1)) x (places_order Text message places are i (i + 1) (omega arith) inside) past
+          (is_place Text message places are i (omega (arith, inside))) (is_place Text message places are (i + 1) inside) alone
+
+      stuck_after : (more : List ℕ) → Fitting (at i) more → ⊥
+      stuck_after [] fit =
+          fit (past_it (length message) (place_within Text message (at (i + 1)) (is_place Text message places are (i + 1) inside)))
+      stuck_after (x ∷ xs) fit =
+          let inner = are.all x fit.1 (let w = place_within Text message x fit.1 in omega (arith, w)) in
+          elim (cases_lt i inner.0) [
+            | inl later ↦ (let o = places_order Text message places are (i + 1) inner.0 (omega (arith, later)) inner.1 in
+                fit.2 (past_it x (omega (arith, o, inner.2))))
+            | inr up_to ↦ (let o = places_order Text message places are inner.0 i up_to (omega (arith, inside)) in
+                let e : x ≡ at i = omega (arith, o, inner.2, fit.0) in
+                stuck_after xs (subst (λ p. Fitting p xs) e fit.3))
+          ]
+
+      pub stuck_at : (more : List ℕ) → Fitting 0 more → 16 ≤ length more
+      stuck_at more h =
+          let w = later_cuts 0 (at i) (omega arith) (start_place Text message text_cut) (is_place Text message places are i (omega (arith, inside))) more h in
+          absurd (stuck_after w.0 w.1)
+
     pub none_left : (first n : ℕ) (cuts : List ℕ) → AreCutsUpTo manner message level limit places first n cuts → 16 ≤ n → (more : List ℕ) → Fitting 0 more →
         16 ≤ length more
     none_left first n cuts known many more h = let w = known.others more h in omega (arith, w.2, many)

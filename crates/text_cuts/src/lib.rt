@@ -3,9 +3,10 @@
 //!
 //! 1. Refuse what has more characters than 16 symbols hold.
 //! 2. List the places between characters, at which the text may be cut (`cut_places`).
-//! 3. In each manner make each part the longest one that fits (`last_fitting`): guess its end by the
-//!    bits that its characters take, and test it (`fitting_bits`). A part that lies within one that
-//!    fits, fits too, so that no other cuts make fewer parts in the manner.
+//! 3. In each manner in which there may be some (`is_stuck`) make each part the longest one that fits
+//!    (`last_fitting`): guess its end by the bits that its characters take, and test it
+//!    (`fitting_bits`). A part that lies within one that fits, fits too, so that no other cuts make
+//!    fewer parts in the manner.
 //! 4. Take the fewest of these (`fewer`).
 //!
 //! ```text
@@ -14,7 +15,7 @@
 #![tactic(auto)]
 
 ghost use Rattle.std.specs.Prelude.{◌≡◌, ◌+◌, ◌<◌, ◌≤◌, ◌⊎◌, ℕ, length, nat_abs, chars, slice_index_or};
-ghost use Rattle.std.specs.Prelude.{All, List, Some, IfErr, IfNone, IfOk, IfSome, OnOk};
+ghost use Rattle.std.specs.Prelude.{All, List, Some, true, IfErr, IfNone, IfOk, IfSome, OnOk};
 ghost use Rattle.std.specs.List.Sorted.{IsNonDecreasing};
 ghost use Rattle.qrcode_base.specs.Symbols.{IsNormalNumber, capacity};
 ghost use Rattle.qrcode_base.specs.declared.symbols.TheConstants.{LONGEST_DATA};
@@ -145,6 +146,9 @@ fn longest_parts(
         (HasNoCutsIn manner text.now level limit)) }
     ensures memory { IfErr result (λ e. e ≡ QrError.OutOfMemory) }
 {
+    if is_stuck(alloc, text, places, manner, level, limit)? {
+        return Ok(None);
+    }
     let mut cuts = Vec::new(alloc);
     let mut first = 0;
     for count in 0..MOST_PARTS {
@@ -159,6 +163,43 @@ fn longest_parts(
         first = last;
     }
     Ok(None)
+}
+
+/// Returns whether the first character beyond ASCII fits no version in a manner, as where this has no
+/// designators: then no part with it does. It fails for lack of memory.
+fn is_stuck(
+    alloc: Global,
+    text: &str,
+    places: &[usize],
+    manner: Manner,
+    level: EcLevel,
+    limit: usize,
+) -> QrResult<bool>
+    requires places { AreCutPlaces Text text.now places.now }
+    requires some { 1 ≤ limit }
+    requires most { limit ≤ 40 }
+    ensures stuck { IfOk result (λ stuck. stuck ≡ true → HasNoCutsIn manner text.now level limit) }
+    ensures memory { IfErr result (λ e. e ≡ QrError.OutOfMemory) }
+{
+    let index = ascii_places(text, places);
+    if index + 1 >= places.len() {
+        return Ok(false);
+    }
+    let part = &text[places[index]..places[index + 1]];
+    match fitting_bits(alloc, part, manner, level, limit)? {
+        Some(_) => Ok(false),
+        None => Ok(true),
+    }
+}
+
+/// Returns how many places there are before the first character beyond ASCII, or all.
+fn ascii_places(text: &str, places: &[usize]) -> usize
+    ensures { result ≤ length places.now }
+{
+    match text.as_bytes().iter().position(|byte| *byte >= 0x80) {
+        Some(first) => places.partition_point(|place| *place < first),
+        None => places.len(),
+    }
 }
 
 /// Returns the number of characters of a text.

@@ -4,7 +4,7 @@ use Rattle.std.specs.Prelude.{map, vec_items}
 use Rattle.std.specs.String.{string_bytes}
 use Rattle.programs.specs.Devices.{input}
 use Rattle.programs.proofs.DeviceLemmas.{ReadsAll-short}
-use Rattle.single_label.specs.declared.parts.TheConstants.{LONGEST_MESSAGE}
+use Rattle.single_label.specs.Parts.{most_together}
 use Rattle.label_words.specs.Numberings.{numbering_of}
 use Rattle.labels.specs.Runs.{AreDrawings}
 use Rattle.labels.proofs.PartFileLemmas.{puts_none, puts_none_or, puts_first}
@@ -14,13 +14,13 @@ pub returns-in-Err-clause-outcome : goal.returns-in-Err-clause-outcome
 returns-in-Err-clause-outcome g c =
     puts_none c.args.label.now c.args.options.now (g.R.Source.state c.args.reader.now) (g.R.Source.state c.read_up_to.new.reader)
     (g.F.Files.state c.args.files.now) (numbering_of c.args.name.now) (string_bytes c.args.path.now) c.in_ok-bytes.bytes.items c.in-Err.stop
-    c.in_ok-bytes.ensures.read (rw (c.deref.ensures.value) at c.in-Err.ensures.refusal) (grind (arith, c.in_ok-bytes.ensures.failure)) (search rules)
+    (rw (c.most_together.ensures.is) at c.in_ok-bytes.ensures.read) (rw (c.deref.ensures.value) at c.in-Err.ensures.refusal) (grind (arith, c.in_ok-bytes.ensures.failure)) (search rules)
 
 pub returns-in-Err-details_message-clause-outcome : goal.returns-in-Err-details_message-clause-outcome
 returns-in-Err-details_message-clause-outcome g c =
     puts_none_or c.args.label.now c.args.options.now (g.R.Source.state c.args.reader.now) (g.R.Source.state c.read_up_to.new.reader)
     (g.F.Files.state c.args.files.now) (numbering_of c.args.name.now) (string_bytes c.args.path.now) c.in_ok-bytes.bytes.items c.in-Err-details_message.stop
-    c.in_ok-bytes.ensures.read (rw (c.deref-2.ensures.value) at c.in-Err-details_message.ensures.refusal) (grind (arith, c.in_ok-bytes.ensures.failure)) (search rules)
+    (rw (c.most_together.ensures.is) at c.in_ok-bytes.ensures.read) (rw (c.deref-2.ensures.value) at c.in-Err-details_message.ensures.refusal) (grind (arith, c.in_ok-bytes.ensures.failure)) (search rules)
 
 pub returns-clause-outcome : goal.returns-clause-outcome
 returns-clause-outcome g c =
@@ -30,7 +30,7 @@ returns-clause-outcome g c =
     let drawings = map vec_items c.in-Ok.drawings.items in
     let are : AreDrawings c.args.label.now c.args.options.now (input r s) drawings c.in-Ok-details_message.details.items = record {
       bytes = bytes;
-      read = ReadsAll-short LONGEST_MESSAGE (input r s) bytes c.in_ok-bytes.ensures.read (rw (c.deref.ensures.value) at c.in-Ok.ensures.limit);
+      read = ReadsAll-short (most_together c.args.label.now.content) (input r s) bytes (rw (c.most_together.ensures.is) at c.in_ok-bytes.ensures.read) (rw (c.deref.ensures.value) at c.in-Ok.ensures.limit);
       shown = rw (c.deref.ensures.value) at c.in-Ok.ensures.shown;
       are_details = rw (c.deref-2.ensures.value) at c.in-Ok-details_message.ensures.details;
     } in

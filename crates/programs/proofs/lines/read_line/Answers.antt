@@ -1,4 +1,4 @@
--- A line ends with its newline or with the input, or more of it is read than a symbol holds.
+-- A line ends with its newline or with the input, or too much of it is read.
 use Rattle.std.proofs.Common.{inl, arith, take, ◌≡◌, [], ◌∷◌, ◌++◌}
 use Rattle.std.proofs.lemmas.Grind.{common_steps}
 use Rattle.programs.proofs.LineLemmas.{line_read, last_read, part_more, on_err, strip_shorter}

@@ -1,8 +1,7 @@
 -- The labels of one symbol, or of several, or why there are none.
 use Rattle.std.proofs.Common.{◌≤◌, ◌⊎◌, inl, inr, rules, length}
 use Rattle.std.specs.Prelude.{Some, map, vec_items}
-use Rattle.single_label.specs.declared.parts.TheConstants.{LONGEST_MESSAGE}
-use Rattle.single_label.specs.{Labels.IsLabelData, Parts.AreLabelsTogether, Parts.AreNotDrawn, Parts.IsPartsStop, Parts.IsMessageStop, Parts.ShowMessage}
+use Rattle.single_label.specs.{Labels.IsLabelData, Parts.AreLabelsTogether, Parts.AreNotDrawn, Parts.IsPartsStop, Parts.IsMessageStop, Parts.ShowMessage, Parts.most_together}
 use Rattle.single_label.specs.Details.{IsDetailsStop}
 use Rattle.single_label.proofs.StopLemmas.{if_err, if_ok, message_no_details, too_long_is}
 use Rattle.single_label.proofs.parts.message_labels.Goals as goal
@@ -12,7 +11,7 @@ returns-in-Ok-clause-refusal c =
     let label = c.args.label.now in
     let content = c.content_of-content.result.now in
     let some : IsLabelData label content = search rules in
-    let short : length c.args.bytes.now ≤ LONGEST_MESSAGE = search rules in
+    let short : length c.args.bytes.now ≤ most_together label.content = search rules in
     if_err (IsDetailsStop label (Some content)) (IsMessageStop label c.args.bytes.now) c.one_label.result (λ stop is. inr (record {
       short = short;
       content = content;
@@ -39,7 +38,7 @@ returns-in-Err-clause-refusal c =
     let label = c.args.label.now in
     let content = c.content_of-content.result.now in
     let some : IsLabelData label content = search rules in
-    let short : length c.args.bytes.now ≤ LONGEST_MESSAGE = search rules in
+    let short : length c.args.bytes.now ≤ most_together label.content = search rules in
     let long = too_long_is label.content label.symbol content c.in-Err.stop (search rules) c.in-Err.ensures.refusal in
     if_err (λ stop. AreNotDrawn label content stop ⊎ IsPartsStop label content stop) (IsMessageStop label c.args.bytes.now) c.sequence_labels.result
     (λ stop none. inr (record {

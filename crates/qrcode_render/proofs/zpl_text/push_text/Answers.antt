@@ -3,7 +3,7 @@ use Rattle.std.proofs.Common.{◌++◌, ap, sym, ◌∙◌, append-nil, get_or, 
 use Rattle.picture_settings.proofs.Ranges.{joined}
 use Rattle.qrcode_render.specs.Zpl.{field_byte, field_data}
 use Rattle.qrcode_render.proofs.CaptionLemmas.{data_more, data_none}
-use Rattle.qrcode_render.proofs.zpl.push_text.Goals as goal
+use Rattle.qrcode_render.proofs.zpl_text.push_text.Goals as goal
 
 pub loop-i-init : goal.loop-i-init
 loop-i-init c = sym (append-nil c.args.bytes.now.items) ∙ ap (λ l. c.args.bytes.now.items ++ l) (sym data_none)

@@ -2,15 +2,15 @@
 use Rattle.std.proofs.Common.{◌≡◌, ◌+◌, ◌++◌, ◌∙◌, [], ◌∷◌, ap, length}
 use Rattle.std.specs.Option.{option_copied}
 use Rattle.grid_pictures.specs.Picture.{shown}
-use Rattle.qrcode_render.specs.Pdf.{pdf_page}
+use Rattle.qrcode_render.specs.Pdf.{captioned_page}
 use Rattle.qrcode_render.specs.PdfPagesWritten.{page_object, page_text, pdf_end, pdf_start}
 use Rattle.qrcode_render.proofs.PdfLemmas.{one_page}
-use Rattle.qrcode_render.proofs.pdf.pdf_document.Goals as goal
+use Rattle.qrcode_render.proofs.pdf.pdf_captioned.Goals as goal
 
 pub returns : goal.returns
 returns c =
-    let title = option_copied c.args.title in
-    let page = pdf_page c.args.module_um c.args.colors (shown c.args.picture.now) in
+    let title = option_copied c.args.texts.title in
+    let page = captioned_page c.args.module_um (option_copied c.args.texts.caption) c.args.colors (shown c.args.picture.now) in
     let start = c.len-start.result in
     let size = c.len-size.result in
     let text : c.push_page.new.bytes.items ≡ pdf_start title ++ page_text 4 page =

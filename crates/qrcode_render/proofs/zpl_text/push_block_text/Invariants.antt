@@ -1,0 +1,7 @@
+-- The bytes so far were added.
+use Rattle.std.proofs.Common.{◌≡◌, ◌++◌, take}
+use Rattle.qrcode_render.specs.Zpl.{block_data}
+use Rattle.qrcode_render.proofs.zpl_text.push_block_text.Given as goal
+
+abbrev pub invariant-loop-i : goal.invariant-loop-i
+invariant-loop-i l = l.bytes.items ≡ l.initial.bytes.items ++ block_data (take l.i l.text)
