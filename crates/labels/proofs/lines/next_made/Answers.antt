@@ -47,9 +47,8 @@ pub returns-in-Err-2-clause-failure : goal.returns-in-Err-2-clause-failure
 returns-in-Err-2-clause-failure g c =
     let label = c.args.label.now in
     let line = c.read_line.new.line.items in
-    let stopped : IsLabelStop label line c.in-Err.stop = rw (c.deref.ensures.value) at c.in-Err.ensures.refusal in
-    (
+    let stopped : IsLabelStop label line c.in-Err.stop = rw (c.deref.ensures.value) at c.in-Err.ensures.refusal in (
       (λ is. let same : c.in-Err.stop ≡ FaultStop Read = grind (arith, is) in
-        absurd (no_device label line Read (inl refl) (subst (λ stop. IsLabelStop label line stop) same stopped))),
-      (λ failed. absurd (grind (arith, failed, c.in_ok-read_line.ensures.failure)))
+          absurd (no_device label line Read (inl refl) (subst (λ stop. IsLabelStop label line stop) same stopped))),
+      (λ failed. absurd (grind (arith, failed, c.in_ok-read_line.ensures.failure))),
     )
