@@ -7,9 +7,10 @@ use Rattle.qrcode_base.specs.declared.types.errors.QrError.{QrError}
 use Rattle.qrcode_base.specs.declared.types.errors.QrError.TheVariants as core
 use Rattle.qrcode_core.specs.Options.{HasVersions}
 use Rattle.qrcode_core.specs.declared.options.SymbolOptions.{SymbolOptions}
-use Rattle.text_symbols.specs.TextHeadline.{IsMicroTextRefused, IsTextRefused}
-use Rattle.text_symbols.specs.declared.micro.MicroTextError.{MicroTextError}
-use Rattle.text_symbols.specs.declared.micro.MicroTextError.TheVariants.{Symbol, Unwritable}
+use Rattle.smallest_symbols.specs.TextHeadline.{IsMicroTextRefused, IsTextRefused}
+use Rattle.smallest_symbols.specs.declared.micro_texts.MicroTextError.{MicroTextError}
+use Rattle.smallest_symbols.specs.declared.micro_texts.MicroTextError.TheVariants.{Symbol}
+use Rattle.smallest_symbols.specs.declared.micro_texts.MicroTextError.TheVariants.{Unwritable}
 use Rattle.qrcode_c.proofs.CoreErrors.{asked_for}
 use Rattle.qrcode_c.specs.Asking.{Means}
 use Rattle.qrcode_c.specs.Levels.{level_argument}

@@ -1,6 +1,6 @@
 -- The symbol of bytes without the Kanji mode in a buffer, and the errors of the call that draws it.
 use Rattle.std.specs.Prelude.{ℕ, List}
-use Rattle.byte_symbols.specs.ByteHeadline.{IsAsAskedWithoutKanji, IsRefusedWithoutKanji}
+use Rattle.smallest_symbols.specs.ByteHeadline.{IsAsAskedWithoutKanji, IsRefusedWithoutKanji}
 use Rattle.qrcode_base.specs.declared.types.errors.QrError.TheVariants.{DataTooLong as TooLong}
 use Rattle.qrcode_base.specs.declared.types.errors.QrError.TheVariants.{OutOfMemory as NoMemory}
 use Rattle.qrcode_core.specs.Symbol.{DrawnSymbol, TellsReading}

@@ -2,8 +2,9 @@
 use Rattle.std.specs.Prelude.{ℤ, pos, Option, Some, None}
 use Rattle.qrcode_base.specs.declared.types.errors.QrError.{QrError}
 use Rattle.qrcode_base.specs.declared.types.errors.QrError.TheVariants as core
-use Rattle.text_symbols.specs.declared.micro.MicroTextError.{MicroTextError}
-use Rattle.text_symbols.specs.declared.micro.MicroTextError.TheVariants.{Symbol, Unwritable}
+use Rattle.smallest_symbols.specs.declared.micro_texts.MicroTextError.{MicroTextError}
+use Rattle.smallest_symbols.specs.declared.micro_texts.MicroTextError.TheVariants.{Symbol}
+use Rattle.smallest_symbols.specs.declared.micro_texts.MicroTextError.TheVariants.{Unwritable}
 use Rattle.qrcode_c.specs.declared.refusal.Refusal.{Refusal}
 use Rattle.qrcode_c.specs.declared.refusal.Refusal.TheVariants.{DataTooLong, OutOfMemory}
 use Rattle.qrcode_c.specs.declared.refusal.Refusal.TheVariants.{InvalidLevel}

@@ -8,9 +8,10 @@ use Rattle.qrcode_base.specs.declared.types.errors.QrError.TheVariants.{OutOfMem
 use Rattle.qrcode_bits.specs.Plans.{micro}
 use Rattle.qrcode_core.specs.Symbol.{DrawnSymbol}
 use Rattle.qrcode_core.specs.declared.options.SymbolOptions.{SymbolOptions}
-use Rattle.text_symbols.specs.TextHeadline.{IsMicroTextRefused, IsSmallestText, IsTextAsAsked}
-use Rattle.text_symbols.specs.TextHeadline.{IsTextRefused, TellsTextReading}
-use Rattle.text_symbols.specs.declared.micro.MicroTextError.TheVariants.{Symbol, Unwritable}
+use Rattle.smallest_symbols.specs.TextHeadline.{IsMicroTextRefused, IsSmallestText, IsTextAsAsked}
+use Rattle.smallest_symbols.specs.TextHeadline.{IsTextRefused, TellsTextReading}
+use Rattle.smallest_symbols.specs.declared.micro_texts.MicroTextError.TheVariants.{Symbol}
+use Rattle.smallest_symbols.specs.declared.micro_texts.MicroTextError.TheVariants.{Unwritable}
 use Rattle.qrcode_c.specs.declared.options.Options.{Options}
 use Rattle.qrcode_c.specs.declared.refusal.Refusal.{Refusal}
 use Rattle.qrcode_c.specs.declared.refusal.Refusal.TheVariants.{DataTooLong, OutOfMemory}

@@ -3,7 +3,7 @@ ghost use Rattle.std.specs.Prelude.{◌≡◌, Some, IsSome};
 ghost use Rattle.qrcode_c.specs.Statuses.{micro_text_status, status_error, status_of};
 
 use qrcode_core::types::QrError;
-use text_symbols::MicroTextError;
+use smallest_symbols::MicroTextError;
 
 /// The errors of a call, with the numbers that the header has.
 #[derive(Clone, Copy, Debug, PartialEq, Eq)]

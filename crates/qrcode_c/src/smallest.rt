@@ -11,8 +11,8 @@ use crate::drawing::write;
 use crate::options::{Options, micro_level_of, options_of};
 use crate::refusal::{Refusal, core_refusal, micro_text_refusal};
 use crate::shape::Shape;
+use smallest_symbols::{micro_text, smallest_text};
 use std::alloc::Global;
-use text_symbols::{micro_text, smallest_text};
 
 /// Writes the smallest symbol of the text in UTF-8 that the options ask for, and returns its shape.
 pub fn smallest_symbol(

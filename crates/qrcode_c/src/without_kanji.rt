@@ -9,7 +9,7 @@ use crate::drawing::write;
 use crate::options::{Options, options_of};
 use crate::refusal::{Refusal, core_refusal};
 use crate::shape::Shape;
-use byte_symbols::bytes_without_kanji;
+use smallest_symbols::bytes_without_kanji;
 use std::alloc::Global;
 
 /// Writes the symbol of the bytes without the Kanji mode that the options ask for, as

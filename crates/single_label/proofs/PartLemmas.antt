@@ -1,5 +1,6 @@
 -- The labels of the symbols that carry a message together.
-use Rattle.std.proofs.Common.{◌≡◌, ◌+◌, ◌<◌, ◌⊎◌, ℕ, None, List, [], ◌∷◌, ◌++◌, length, take, get_or, append-nil}
+use Rattle.std.proofs.Common.{◌≡◌, ◌+◌, ◌<◌, ◌⊎◌, ℕ, None, List, [], ◌∷◌, ◌++◌, length, take}
+use Rattle.std.proofs.Common.{get_or, append-nil}
 use Rattle.std.proofs.Common.{inl, inr, ap, ◌∙◌, arith}
 use Rattle.std.specs.Prelude.{Vec, map, vec_items, nat_abs}
 use Rattle.std.specs.Str.{IsUtf8}
@@ -8,9 +9,10 @@ use Rattle.qrcode_bits.specs.declared.bits.front.Content.TheVariants.{Text as Te
 use Rattle.qrcode_core.specs.{BestCuts.AreBestCuts, Sequence.IsSequenceRefusal}
 use Rattle.qrcode_core.specs.declared.options.SymbolOptions.{SymbolOptions}
 use Rattle.qrcode_core.specs.declared.types.errors.QrError.{QrError}
-use Rattle.single_label.specs.{Parts.IsSequenceFault, Parts.IsSmallestSequenceFault, Parts.IsTextFault}
-use Rattle.text_cuts.specs.TextCuts.{AreBestTextCuts}
-use Rattle.text_sequences.specs.TextMessages.{IsTextSequenceRefusal}
+use Rattle.single_label.specs.{Parts.IsSequenceFault, Parts.IsSmallestSequenceFault}
+use Rattle.single_label.specs.{Parts.IsTextFault}
+use Rattle.smallest_symbols.specs.TextCuts.{AreBestTextCuts}
+use Rattle.smallest_symbols.specs.TextMessages.{IsTextSequenceRefusal}
 use Rattle.std.specs.declared.alloc.Global.{Global}
 use Rattle.std.proofs.lemmas.{Grind.common_steps, Grind.flat_map-append, List.take_more}
 use Rattle.programs.specs.declared.Fault.{Fault as FaultOf}
@@ -19,8 +21,10 @@ use Rattle.qrcode_core.specs.Symbol.{DrawnSymbol}
 use Rattle.picture_settings.specs.declared.draw_options.DrawOptions.{DrawOptions}
 use Rattle.label_words.specs.declared.command.Label.{Label}
 use Rattle.single_label.specs.declared.stop.Stop.TheVariants.{Fault}
-use Rattle.single_label.specs.{Labels.ShowsSymbol, Parts.ShowEach, Parts.IsMessageStop, Parts.all_drawings}
-use Rattle.single_label.specs.{Parts.IsEmptyStop, Parts.IsOtherStop, Parts.IsSequenceStop, Labels.IsLabelData}
+use Rattle.single_label.specs.{Labels.ShowsSymbol, Parts.ShowEach, Parts.IsMessageStop}
+use Rattle.single_label.specs.{Parts.all_drawings}
+use Rattle.single_label.specs.{Parts.IsEmptyStop, Parts.IsOtherStop, Parts.IsSequenceStop}
+use Rattle.single_label.specs.{Labels.IsLabelData}
 use Rattle.single_label.proofs.StopLemmas.{neither}
 
 -- a symbol more is shown

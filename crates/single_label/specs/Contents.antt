@@ -1,10 +1,11 @@
 -- The symbol of a label, by what its bytes are.
-use Rattle.std.specs.Prelude.{◌≡◌, ◌⊎◌, ℕ, ◌<◌, ◌≤◌, nat_lt, ◌==◌, Bool, true, false, ◌&&◌, List, length}
+use Rattle.std.specs.Prelude.{◌≡◌, ◌⊎◌, ℕ, ◌<◌, ◌≤◌, nat_lt, ◌==◌, Bool, true, false, ◌&&◌, List}
+use Rattle.std.specs.Prelude.{length}
 use Rattle.std.specs.Prelude.{slice_index, slice_get, drop, None, Some, if◌then◌else◌, chars, ⊤}
 use Rattle.std.specs.List.{list_all, list_any}
 use Rattle.std.specs.Io.BufRead.{ends_with_byte, strip_last}
 use Rattle.std.specs.Str.{IsUtf8, IsValidUpTo}
-use Rattle.byte_symbols.specs.ByteHeadline.{IsAsAskedWithoutKanji, IsRefusedWithoutKanji}
+use Rattle.smallest_symbols.specs.ByteHeadline.{IsAsAskedWithoutKanji, IsRefusedWithoutKanji}
 use Rattle.gs1.specs.Checked.{AreAllowedElements, IsRefusedStringByTable}
 use Rattle.gs1.specs.Elements.{Element, written_elements, text_fault, IsRefusedText}
 use Rattle.gs1_links.specs.LinkReader.{ReadsLink}
@@ -20,24 +21,30 @@ use Rattle.qrcode_base.specs.declared.symbols.TheConstants.{LONGEST_DATA}
 use Rattle.qrcode_bits.specs.Frame.{front_of, no_front}
 use Rattle.qrcode_bits.specs.Plans.{micro}
 use Rattle.qrcode_bits.specs.Push.{IsMicroRefused}
-use Rattle.qrcode_bits.specs.declared.bits.front.Content.TheVariants.{Text as TextFront, Elements as ElementsFront}
+use Rattle.qrcode_bits.specs.declared.bits.front.Content.TheVariants.{Text as TextFront}
+use Rattle.qrcode_bits.specs.declared.bits.front.Content.TheVariants.{Elements as ElementsFront}
 use Rattle.qrcode_core.specs.Headline.{IsBestMicroSymbol}
 use Rattle.qrcode_core.specs.Options.{IsAsAsked, IsOptionsRefusal, IsElementsOptionsRefusal}
 use Rattle.qrcode_core.specs.declared.options.SymbolOptions.{SymbolOptions}
 use Rattle.qrcode_core.specs.declared.types.Color.{Color}
 use Rattle.qrcode_core.specs.declared.types.EcLevel.{EcLevel}
 use Rattle.qrcode_core.specs.declared.types.errors.QrError.{QrError}
-use Rattle.qrcode_core.specs.declared.types.errors.QrError.TheVariants.{DataTooLong, InvalidCharacter, OutOfMemory}
+use Rattle.qrcode_core.specs.declared.types.errors.QrError.TheVariants.{DataTooLong}
+use Rattle.qrcode_core.specs.declared.types.errors.QrError.TheVariants.{InvalidCharacter}
+use Rattle.qrcode_core.specs.declared.types.errors.QrError.TheVariants.{OutOfMemory}
 use Rattle.single_label.specs.declared.content.TheConstants.{LONGEST_TEXT}
 use Rattle.single_label.specs.Faults.{IsFaultIn, IsWrittenAt, IsFoundAt}
 use Rattle.label_words.specs.declared.command.Content.{Content}
-use Rattle.label_words.specs.declared.command.Content.TheVariants.{Auto, Text, Bytes, Gs1, UncheckedGs1, Link, Micro}
+use Rattle.label_words.specs.declared.command.Content.TheVariants.{Auto, Text, Bytes, Gs1}
+use Rattle.label_words.specs.declared.command.Content.TheVariants.{UncheckedGs1, Link, Micro}
 use Rattle.label_words.specs.declared.command.Content.TheVariants.{MicroBytes, BytesWithoutKanji}
 use Rattle.single_label.specs.declared.stop.Stop.{Stop}
 use Rattle.single_label.specs.declared.stop.Stop.TheVariants.{Fault, Elements, NotAllowed, NoLink}
 use Rattle.single_label.specs.declared.stop.Stop.TheVariants.{NoMicroText}
-use Rattle.text_symbols.specs.TextHeadline.{IsSmallestText, IsTextAsAsked, IsTextRefused, IsMicroTextRefused}
-use Rattle.text_symbols.specs.declared.micro.MicroTextError.TheVariants.{Unwritable, Symbol as SymbolError}
+use Rattle.smallest_symbols.specs.TextHeadline.{IsSmallestText, IsTextAsAsked, IsTextRefused}
+use Rattle.smallest_symbols.specs.TextHeadline.{IsMicroTextRefused}
+use Rattle.smallest_symbols.specs.declared.micro_texts.MicroTextError.TheVariants.{Unwritable}
+use Rattle.smallest_symbols.specs.declared.micro_texts.MicroTextError.TheVariants.{Symbol as SymbolError}
 
 -- Whether all bytes are ASCII.
 abbrev pub is_all_ascii : List ℕ → Bool

@@ -1,7 +1,9 @@
 -- The details of a symbol: version, level, mask, segments and size.
-use Rattle.std.specs.Prelude.{◌≡◌, ◌⊎◌, ◌≤◌, ℕ, Bool, ◌+◌, ◌-◌, ◌*◌, ◌/◌, ◌%◌, nat_abs, nat_le, ◌&&◌}
+use Rattle.std.specs.Prelude.{◌≡◌, ◌⊎◌, ◌≤◌, ℕ, Bool, ◌+◌, ◌-◌, ◌*◌, ◌/◌, ◌%◌, nat_abs, nat_le}
+use Rattle.std.specs.Prelude.{◌&&◌}
 use Rattle.std.specs.Prelude.{false, true, if◌then◌else◌}
-use Rattle.std.specs.Prelude.{List, [], ◌∷◌, ◌++◌, Option, Some, None, codes, decimal, flat_map, unwrap_or}
+use Rattle.std.specs.Prelude.{List, [], ◌∷◌, ◌++◌, Option, Some, None, codes, decimal, flat_map}
+use Rattle.std.specs.Prelude.{unwrap_or}
 use Rattle.std.specs.Prelude.{chars, length}
 use Rattle.programs.specs.declared.Fault.TheVariants.{Symbol}
 use Rattle.qrcode_base.specs.Names.{level_text}
@@ -11,7 +13,8 @@ use Rattle.qrcode_bits.specs.Parsing.{parsed}
 use Rattle.qrcode_bits.specs.Plans.{IsChosenPlan}
 use Rattle.qrcode_bits.specs.declared.bits.front.Content.{Content as FrontContent}
 use Rattle.qrcode_bits.specs.declared.bits.front.Content.TheVariants.{Bytes as BytesFront}
-use Rattle.qrcode_bits.specs.declared.bits.front.Content.TheVariants.{Text as TextFront, Elements as ElementsFront}
+use Rattle.qrcode_bits.specs.declared.bits.front.Content.TheVariants.{Text as TextFront}
+use Rattle.qrcode_bits.specs.declared.bits.front.Content.TheVariants.{Elements as ElementsFront}
 use Rattle.qrcode_bits.specs.declared.optimize.Segment.{Segment}
 use Rattle.qrcode_core.specs.Symbol.{DrawnSymbol, drawn_grid}
 use Rattle.qrcode_core.specs.declared.types.Mode.{Mode}
@@ -25,7 +28,8 @@ use Rattle.picture_settings.specs.declared.bounds.TheConstants.{MAX_DPI_TENTHS}
 use Rattle.picture_settings.specs.declared.draw_options.DrawOptions.{DrawOptions}
 use Rattle.single_label.specs.Contents.{HasText, is_bracketed, AreWritten, AreNotWritten}
 use Rattle.label_words.specs.declared.command.Content.{Content}
-use Rattle.label_words.specs.declared.command.Content.TheVariants.{Text, BytesWithoutKanji, Gs1, UncheckedGs1, Link}
+use Rattle.label_words.specs.declared.command.Content.TheVariants.{Text, BytesWithoutKanji, Gs1}
+use Rattle.label_words.specs.declared.command.Content.TheVariants.{UncheckedGs1, Link}
 use Rattle.label_words.specs.declared.command.Label.{Label}
 use Rattle.single_label.specs.OtherWays.{IsLinkOutcome, IsElementsOutcome}
 use Rattle.single_label.specs.declared.other_way.Outcome.{Outcome}
@@ -33,7 +37,7 @@ use Rattle.single_label.specs.declared.other_way.Outcome.TheVariants.{Drawn, Too
 use Rattle.single_label.specs.declared.stop.Stop.{Stop}
 use Rattle.single_label.specs.declared.stop.Stop.TheVariants.{Fault}
 use Rattle.text_plans.specs.Costs.{AreLeast, AreTextParts, bits_of_parts}
-use Rattle.text_reading.specs.Reading.{Part, designator, segment}
+use Rattle.character_sets.specs.Reading.{Part, designator, segment}
 
 -- ---- Segments
 

@@ -5,7 +5,8 @@ use Rattle.std.specs.Prelude.{false, List, [], ◌∷◌, length, map, flat_map,
 use Rattle.std.specs.Str.{IsUtf8}
 use Rattle.programs.specs.declared.Fault.TheVariants.{Symbol}
 use Rattle.qrcode_bits.specs.declared.bits.front.Content.{Content as FrontContent}
-use Rattle.qrcode_bits.specs.declared.bits.front.Content.TheVariants.{Bytes as BytesFront, Text as TextFront}
+use Rattle.qrcode_bits.specs.declared.bits.front.Content.TheVariants.{Bytes as BytesFront}
+use Rattle.qrcode_bits.specs.declared.bits.front.Content.TheVariants.{Text as TextFront}
 use Rattle.qrcode_core.specs.BestCuts.{AreBestCuts, IsCutsRefusal}
 use Rattle.qrcode_core.specs.Symbol.{DrawnSymbol, modules_of}
 use Rattle.qrcode_core.specs.Sequence.{AreBestSymbols, IsSequenceRefusal}
@@ -23,8 +24,8 @@ use Rattle.label_words.specs.declared.command.Content.TheVariants.{Auto, Text, B
 use Rattle.label_words.specs.declared.command.Label.{Label}
 use Rattle.single_label.specs.declared.stop.Stop.{Stop}
 use Rattle.single_label.specs.declared.stop.Stop.TheVariants.{Fault, Empty, TooManyParts}
-use Rattle.text_cuts.specs.TextCuts.{AreBestTextCuts, IsTextCutsRefusal}
-use Rattle.text_sequences.specs.TextMessages.{AreSmallestTextSymbols, IsTextSequenceRefusal}
+use Rattle.smallest_symbols.specs.TextCuts.{AreBestTextCuts, IsTextCutsRefusal}
+use Rattle.smallest_symbols.specs.TextMessages.{AreSmallestTextSymbols, IsTextSequenceRefusal}
 
 -- ---- Several symbols
 

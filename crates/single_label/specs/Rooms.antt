@@ -14,7 +14,8 @@ use Rattle.qrcode_base.specs.declared.types.Version.{Version}
 use Rattle.qrcode_base.specs.declared.types.Version.TheVariants.{Normal, Micro as MicroVersion}
 use Rattle.qrcode_core.specs.declared.options.SymbolOptions.{SymbolOptions}
 use Rattle.label_words.specs.Choices.{is_micro_content, can_be_split}
-use Rattle.single_label.specs.Contents.{IsSymbolAs, IsStopAs, IsPlain, is_all_ascii, HasText, IsBeyondAscii}
+use Rattle.single_label.specs.Contents.{IsSymbolAs, IsStopAs, IsPlain, is_all_ascii, HasText}
+use Rattle.single_label.specs.Contents.{IsBeyondAscii}
 use Rattle.label_words.specs.declared.command.Content.{Content}
 use Rattle.label_words.specs.declared.command.Content.TheVariants.{Auto, Text, Gs1, UncheckedGs1}
 use Rattle.std.specs.Str.{IsUtf8}
@@ -25,7 +26,7 @@ use Rattle.single_label.specs.declared.stop.Stop.{Stop}
 use Rattle.single_label.specs.declared.stop.TextLength.{TextLength}
 use Rattle.single_label.specs.declared.stop.TooLong.{TooLong}
 use Rattle.text_plans.specs.Costs.{AreLeast, bits_of_parts}
-use Rattle.text_reading.specs.Reading.{Part}
+use Rattle.character_sets.specs.Reading.{Part}
 
 -- ---- Room
 

@@ -16,7 +16,6 @@ ghost use Rattle.std.specs.Io.BufRead.{strip_last};
 use crate::apart::check_apart;
 use crate::element::{read_stop, written_stop};
 use crate::stop::Stop;
-use byte_symbols::bytes_without_kanji;
 use gs1::{check_element_string, check_element_values, checked_element_string, element_string};
 use gs1_links::{capital_link, digital_link};
 use label_words::Content;
@@ -24,8 +23,8 @@ use qrcode_base::symbols::LONGEST_DATA;
 use qrcode_core::options::SymbolOptions;
 use qrcode_core::symbol::Symbol;
 use qrcode_core::types::{EcLevel, QrError, QrResult};
+use smallest_symbols::{MicroTextError, bytes_without_kanji, micro_text, smallest_text};
 use std::alloc::Global;
-use text_symbols::{MicroTextError, micro_text, smallest_text};
 
 /// No symbol holds a text of more bytes: it has at most 7089 characters, each of at most four bytes.
 pub const LONGEST_TEXT: usize = 4 * LONGEST_DATA;

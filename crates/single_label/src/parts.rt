@@ -1,6 +1,7 @@
 //! From a message to the labels of the symbols that carry it together (ISO/IEC 18004:2006,
 //! "Structured Append").
-ghost use Rattle.std.specs.Prelude.{◌≡◌, ◌⊎◌, ◌≤◌, ◌*◌, ℕ, List, [], ◌∷◌, length, map, vec_items, Some, IfOk, IfErr, OnOk};
+ghost use Rattle.std.specs.Prelude.{◌≡◌, ◌⊎◌, ◌≤◌, ◌*◌, ℕ, List, [], ◌∷◌, length, map, vec_items};
+ghost use Rattle.std.specs.Prelude.{Some, IfOk, IfErr, OnOk};
 ghost use Rattle.qrcode_bits.specs.declared.bits.front.Content.TheVariants.{Bytes};
 ghost use Rattle.qrcode_core.specs.Symbol.{modules_of};
 ghost use Rattle.single_label.specs.Parts.{IsSequenceOf, IsSequenceFault, IsTextSequence};
@@ -25,9 +26,8 @@ use qrcode_core::options::SymbolOptions;
 use qrcode_core::symbol::{Symbol, best_cuts, best_text_cuts};
 use qrcode_core::types::{QrError, QrResult};
 use qrcode_render::DrawOptions;
+use smallest_symbols::{smallest_text_cuts, smallest_text_sequence};
 use std::alloc::{AllocError, Global};
-use text_cuts::smallest_text_cuts;
-use text_sequences::smallest_text_sequence;
 
 /// Returns how many bytes the content of a sequence of symbols has at most: it has 16 of them.
 pub fn most_together(content: Content) -> usize

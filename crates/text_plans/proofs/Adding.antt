@@ -1,10 +1,13 @@
 -- A character is read again that was appended.
-use Rattle.std.proofs.Common.{◌≡◌, ℕ, ◌<◌, Bool, true, false, ◌||◌, inl, inr, List, [], ◌∷◌, ap, sym, ◌∙◌, arith, Option, Some, None}
+use Rattle.std.proofs.Common.{◌≡◌, ℕ, ◌<◌, Bool, true, false, ◌||◌, inl, inr, List, [], ◌∷◌, ap}
+use Rattle.std.proofs.Common.{sym, ◌∙◌, arith, Option, Some, None}
 use Rattle.std.proofs.lemmas.Bool.{cond-true, cases_lt}
 use Rattle.std.proofs.lemmas.Grind.{common_steps}
 use Rattle.qrcode_base.specs.Characters.{is_between, is_alphanumeric}
 use Rattle.qrcode_base.specs.declared.types.Mode.TheVariants.{Numeric, Alphanumeric, Byte, Kanji}
-use Rattle.text_reading.specs.Reading.{put, each_of, read_bytes, read_kanji, read_segment, pair_character, is_shift_jis, digit_character, alphanumeric_character}
+use Rattle.character_sets.specs.Reading.{put, each_of, read_bytes, read_kanji, read_segment}
+use Rattle.character_sets.specs.Reading.{pair_character, is_shift_jis, digit_character}
+use Rattle.character_sets.specs.Reading.{alphanumeric_character}
 use Rattle.text_plans.specs.Lanes.{AreFacts}
 use Rattle.text_plans.specs.declared.facts.Facts.{Facts}
 use Rattle.text_plans.proofs.Sizes.{no_sign}

@@ -1,5 +1,6 @@
 -- The least of the three ways is the least of all parts.
-use Rattle.std.proofs.Common.{◌≡◌, ℕ, ◌+◌, ◌*◌, ◌/◌, ◌≤◌, ◌<◌, Bool, true, false, ◌||◌, ◌⊎◌, inl, inr, List, [], ◌∷◌, ◌++◌, length, refl, ap, sym, ◌∙◌, subst, arith}
+use Rattle.std.proofs.Common.{◌≡◌, ℕ, ◌+◌, ◌*◌, ◌/◌, ◌≤◌, ◌<◌, Bool, true, false, ◌||◌, ◌⊎◌, inl}
+use Rattle.std.proofs.Common.{inr, List, [], ◌∷◌, ◌++◌, length, refl, ap, sym, ◌∙◌, subst, arith}
 use Rattle.std.specs.Prelude.{Option, None, Some, All}
 use Rattle.std.proofs.lemmas.Bool.{cond-true}
 use Rattle.std.proofs.lemmas.Grind.{common_steps}
@@ -8,9 +9,11 @@ use Rattle.qrcode_base.specs.declared.types.Mode.{Mode}
 use Rattle.qrcode_base.specs.declared.types.Mode.TheVariants.{Numeric, Alphanumeric, Byte, Kanji}
 use Rattle.qrcode_base.specs.declared.types.Version.{Version}
 use Rattle.qrcode_base.specs.declared.types.Version.TheVariants.{Normal, Micro}
-use Rattle.text_reading.specs.Bytes.{ascii_character, common_character}
-use Rattle.text_reading.specs.Reading.{Part, designator, segment, is_known, has_no_designator, has_kanji, joined, read_parts, read_segment, is_shift_jis, IsReadAs}
-use Rattle.text_reading.specs.Reading.{each_of, read_bytes, read_kanji}
+use Rattle.character_sets.specs.Bytes.{ascii_character, common_character}
+use Rattle.character_sets.specs.Reading.{Part, designator, segment, is_known, has_no_designator}
+use Rattle.character_sets.specs.Reading.{has_kanji, joined, read_parts, read_segment, is_shift_jis}
+use Rattle.character_sets.specs.Reading.{IsReadAs}
+use Rattle.character_sets.specs.Reading.{each_of, read_bytes, read_kanji}
 use Rattle.text_plans.specs.Costs.{HasPart, bits_of_part, bits_of_parts, AreTextParts, AreLeast}
 use Rattle.text_plans.specs.Keeping.{TakesNoMore}
 use Rattle.text_plans.specs.Lanes.{AreAllFacts, AreFacts, force_of}

@@ -1,16 +1,20 @@
 -- Bytes of a segment after others, and parts after others.
-use Rattle.std.proofs.Common.{◌≡◌, ℕ, Bool, true, false, ◌==◌, ◌||◌, inl, inr, List, [], ◌∷◌, ◌++◌, refl, ap, ◌∙◌, arith}
+use Rattle.std.proofs.Common.{◌≡◌, ℕ, Bool, true, false, ◌==◌, ◌||◌, inl, inr, List, [], ◌∷◌, ◌++◌}
+use Rattle.std.proofs.Common.{refl, ap, ◌∙◌, arith}
 use Rattle.std.specs.Prelude.{Option, None, Some, if◌then◌else◌, chars}
 use Rattle.std.specs.Str.{is_utf8}
 use Rattle.std.proofs.lemmas.Bool.{cond-true, cond-false}
-use Rattle.std.proofs.lemmas.Str.{IsUtf8-append, IsUtf8-from_is_utf8, is_utf8-from_IsUtf8, chars-append}
+use Rattle.std.proofs.lemmas.Str.{IsUtf8-append, IsUtf8-from_is_utf8, is_utf8-from_IsUtf8}
+use Rattle.std.proofs.lemmas.Str.{chars-append}
 use Rattle.std.proofs.lemmas.Grind.{common_steps}
 use Rattle.qrcode_base.specs.Characters.{is_lead}
 use Rattle.qrcode_base.specs.declared.types.Mode.{Mode}
 use Rattle.qrcode_base.specs.declared.types.Mode.TheVariants.{Numeric, Alphanumeric, Byte, Kanji}
-use Rattle.text_reading.specs.Bytes.{ascii_character, common_character, shift_jis_character, character_of_byte}
-use Rattle.text_reading.specs.Reading.{put, each_of, read_bytes, read_kanji, read_shift_jis, read_segment, pair_character, is_shift_jis}
-use Rattle.text_reading.specs.Reading.{digit_character, alphanumeric_character}
+use Rattle.character_sets.specs.Bytes.{ascii_character, common_character, shift_jis_character}
+use Rattle.character_sets.specs.Bytes.{character_of_byte}
+use Rattle.character_sets.specs.Reading.{put, each_of, read_bytes, read_kanji, read_shift_jis}
+use Rattle.character_sets.specs.Reading.{read_segment, pair_character, is_shift_jis}
+use Rattle.character_sets.specs.Reading.{digit_character, alphanumeric_character}
 use Rattle.text_plans.proofs.Begins.{if_list}
 use Rattle.text_plans.proofs.Sizes.{lead_cases}
 

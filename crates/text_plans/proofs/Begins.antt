@@ -1,20 +1,24 @@
 -- The first character of a segment in a lane, by the facts of that character.
-use Rattle.std.proofs.Common.{◌≡◌, ◌≢◌, ℕ, ◌+◌, ◌≤◌, ◌<◌, Bool, true, false, ◌||◌, ◌==◌, List, [], ◌∷◌, length, get_or, refl, ap, sym, ◌∙◌, arith, ◌⊎◌, inl, inr}
+use Rattle.std.proofs.Common.{◌≡◌, ◌≢◌, ℕ, ◌+◌, ◌≤◌, ◌<◌, Bool, true, false, ◌||◌, ◌==◌, List, []}
+use Rattle.std.proofs.Common.{◌∷◌, length, get_or, refl, ap, sym, ◌∙◌, arith, ◌⊎◌, inl, inr}
 use Rattle.std.specs.Prelude.{Option, None, Some, if◌then◌else◌, not, chars, encode_utf8_all}
 use Rattle.std.specs.Str.{is_utf8}
 use Rattle.std.proofs.lemmas.Str.{encodes-chars, IsUtf8-from_is_utf8}
 use Rattle.qrcode_base.specs.Characters.{is_lead}
-use Rattle.text_reading.specs.Bytes.{ascii_character, common_character, shift_jis_character, character_of_byte}
-use Rattle.text_reading.specs.Reading.{put, read_shift_jis, pair_character}
+use Rattle.character_sets.specs.Bytes.{ascii_character, common_character, shift_jis_character}
+use Rattle.character_sets.specs.Bytes.{character_of_byte}
+use Rattle.character_sets.specs.Reading.{put, read_shift_jis, pair_character}
 use Rattle.std.proofs.lemmas.Grind.{common_steps}
 use Rattle.qrcode_base.specs.declared.types.Mode.{Mode}
 use Rattle.qrcode_base.specs.declared.types.Mode.TheVariants.{Numeric, Alphanumeric, Byte, Kanji}
-use Rattle.text_reading.specs.Reading.{read_kanji, read_bytes, read_segment, is_shift_jis, digit_character, alphanumeric_character}
+use Rattle.character_sets.specs.Reading.{read_kanji, read_bytes, read_segment, is_shift_jis}
+use Rattle.character_sets.specs.Reading.{digit_character, alphanumeric_character}
 use Rattle.text_plans.specs.Lanes.{AreFacts, SuitsMixed, force_of}
 use Rattle.text_plans.specs.Search.{can_write}
 use Rattle.text_plans.specs.declared.facts.Facts.{Facts}
 use Rattle.text_plans.specs.declared.rules.Rules.{Rules}
-use Rattle.text_plans.proofs.Fronts.{each_front, digit_is, alphanumeric_is, kanji_front, each_none, kanji_none, put_some}
+use Rattle.text_plans.proofs.Fronts.{each_front, digit_is, alphanumeric_is, kanji_front, each_none}
+use Rattle.text_plans.proofs.Fronts.{kanji_none, put_some}
 use Rattle.text_plans.proofs.Weights.{char_size}
 
 -- A segment begins with a character that is allowed there, and goes on with other bytes.

@@ -1,5 +1,6 @@
 -- No parts that are read as a text weigh less than what is looked for.
-use Rattle.std.proofs.Common.{◌≡◌, ◌≢◌, ℕ, ◌+◌, ◌*◌, ◌-◌, ◌≤◌, ◌<◌, Bool, true, false, ◌==◌, List, [], ◌∷◌, ◌++◌, length, refl, sym, subst, arith}
+use Rattle.std.proofs.Common.{◌≡◌, ◌≢◌, ℕ, ◌+◌, ◌*◌, ◌-◌, ◌≤◌, ◌<◌, Bool, true, false, ◌==◌, List}
+use Rattle.std.proofs.Common.{[], ◌∷◌, ◌++◌, length, refl, sym, subst, arith}
 use Rattle.std.specs.Prelude.{Option, None, Some, All, if◌then◌else◌}
 use Rattle.std.proofs.lemmas.Grind.{common_steps}
 use Rattle.std.proofs.lemmas.List.Elements.{All-head, All-tail}
@@ -9,7 +10,8 @@ use Rattle.qrcode_base.specs.declared.types.Mode.{Mode}
 use Rattle.qrcode_base.specs.declared.types.Mode.TheVariants.{Numeric, Alphanumeric, Byte, Kanji}
 use Rattle.qrcode_base.specs.declared.types.Version.{Version}
 use Rattle.qrcode_base.specs.declared.types.Version.TheVariants.{Normal, Micro}
-use Rattle.text_reading.specs.Reading.{Part, designator, segment, is_known, joined, read_parts, read_segment}
+use Rattle.character_sets.specs.Reading.{Part, designator, segment, is_known, joined, read_parts}
+use Rattle.character_sets.specs.Reading.{read_segment}
 use Rattle.text_plans.specs.Costs.{HasPart, bits_of_part}
 use Rattle.text_plans.specs.Lanes.{AreAllFacts, SuitsMixed, force_of}
 pub use Rattle.text_plans.specs.Ways.{HasHeaders, weight_of}
@@ -19,7 +21,8 @@ use Rattle.text_plans.specs.declared.row.Rest.{Rest}
 use Rattle.text_plans.specs.declared.row.TheConstants.{BIT}
 use Rattle.text_plans.specs.declared.rules.Rules.{Rules}
 use Rattle.text_plans.proofs.Begins.{begins, segment_none}
-use Rattle.text_plans.proofs.Rows.{entry, entry_end, fresh_begin, fresh_switch, onward_fresh, onward_go, weight_true}
+use Rattle.text_plans.proofs.Rows.{entry, entry_end, fresh_begin, fresh_switch, onward_fresh}
+use Rattle.text_plans.proofs.Rows.{onward_go, weight_true}
 use Rattle.text_plans.proofs.Weights.{bits_in, bits_more, bits_rise, onward_more, char_size}
 
 -- Parts that the rules have: designators only where these have a weight, Kanji segments only in

@@ -1,10 +1,11 @@
 -- The parts of a plan while it is written.
-use Rattle.std.proofs.Common.{◌≡◌, ℕ, ◌≤◌, List, [], ◌∷◌, ◌++◌, length, drop, map, refl, ap, arith, All}
+use Rattle.std.proofs.Common.{◌≡◌, ℕ, ◌≤◌, List, [], ◌∷◌, ◌++◌, length, drop, map, refl, ap, arith}
+use Rattle.std.proofs.Common.{All}
 use Rattle.std.specs.Prelude.{slice_range, Option}
 use Rattle.std.proofs.lemmas.Grind.{common_steps}
 use Rattle.std.proofs.lemmas.List.{drop-append-le}
 use Rattle.std.proofs.lemmas.List.Elements.{All-head, All-tail}
-use Rattle.text_reading.specs.Reading.{segment}
+use Rattle.character_sets.specs.Reading.{segment}
 use Rattle.qrcode_base.specs.declared.types.Mode.{Mode}
 use Rattle.text_plans.specs.Plan.{LiesWithin, part_of, Written}
 use Rattle.text_plans.specs.declared.plan.PlanPart.{PlanPart}

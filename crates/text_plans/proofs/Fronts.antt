@@ -2,7 +2,8 @@
 use Rattle.std.proofs.Common.{◌≡◌, ℕ, Bool, true, false, List, [], ◌∷◌, refl, subst}
 use Rattle.std.specs.Prelude.{Option, None, Some, if◌then◌else◌}
 use Rattle.qrcode_base.specs.Characters.{is_between, is_alphanumeric}
-use Rattle.text_reading.specs.Reading.{put, each_of, read_kanji, pair_character, digit_character, alphanumeric_character}
+use Rattle.character_sets.specs.Reading.{put, each_of, read_kanji, pair_character, digit_character}
+use Rattle.character_sets.specs.Reading.{alphanumeric_character}
 
 pub put_is : (x : Option ℕ) (y : Option (List ℕ)) (c : ℕ) (cs : List ℕ) → put x y ≡ Some (c ∷ cs) → (x ≡ Some c) × (y ≡ Some cs)
 put_is (Some x) (Some y) c cs h = (cc, cc)

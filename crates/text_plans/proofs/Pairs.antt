@@ -1,10 +1,12 @@
 -- A text in which no character is a pair of the Kanji mode has no Kanji segment.
-use Rattle.std.proofs.Common.{◌≡◌, ◌≢◌, ℕ, Bool, true, false, ◌||◌, List, [], ◌∷◌, ◌++◌, refl, sym, ◌∙◌, subst}
+use Rattle.std.proofs.Common.{◌≡◌, ◌≢◌, ℕ, Bool, true, false, ◌||◌, List, [], ◌∷◌, ◌++◌, refl, sym}
+use Rattle.std.proofs.Common.{◌∙◌, subst}
 use Rattle.std.specs.Prelude.{Option, Some, All}
 use Rattle.std.proofs.lemmas.List.Elements.{All-head, All-tail}
 use Rattle.qrcode_base.specs.declared.types.Mode.TheVariants.{Numeric, Alphanumeric, Byte, Kanji}
 use Rattle.qrcode_base.specs.declared.types.Version.{Version}
-use Rattle.text_reading.specs.Reading.{Part, designator, segment, is_known, is_shift_jis, has_kanji, read_kanji, read_parts, read_segment}
+use Rattle.character_sets.specs.Reading.{Part, designator, segment, is_known, is_shift_jis}
+use Rattle.character_sets.specs.Reading.{has_kanji, read_kanji, read_parts, read_segment}
 use Rattle.text_plans.specs.Costs.{HasPart}
 use Rattle.text_plans.specs.Lanes.{AreAllFacts}
 use Rattle.text_plans.specs.declared.facts.Facts.{Facts}

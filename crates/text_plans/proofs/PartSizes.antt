@@ -1,9 +1,10 @@
 -- The lanes of the parts of ISO/IEC 8859, of a character that is not ASCII.
-use Rattle.std.proofs.Common.{◌≡◌, ℕ, zero, suc, ◌+◌, ◌≤◌, ◌<◌, true, false, ◌==◌, min, ap, sym, ◌∙◌, subst, ne_eqb, arith}
+use Rattle.std.proofs.Common.{◌≡◌, ℕ, zero, suc, ◌+◌, ◌≤◌, ◌<◌, true, false, ◌==◌, min, ap, sym}
+use Rattle.std.proofs.Common.{◌∙◌, subst, ne_eqb, arith}
 use Rattle.std.specs.Prelude.{Option, Some}
 use Rattle.std.proofs.lemmas.Bool.{cond-true}
 use Rattle.std.proofs.lemmas.Grind.{common_steps}
-use Rattle.text_reading.specs.Bytes.{IsPartByte, character_of_byte, is_part, part_character}
+use Rattle.character_sets.specs.Bytes.{IsPartByte, character_of_byte, is_part, part_character}
 use Rattle.text_plans.specs.Lanes.{IsSize, column_of, force_of, single_character}
 use Rattle.text_plans.proofs.Sizes.{is_other, no_size, one_size, single_lane}
 

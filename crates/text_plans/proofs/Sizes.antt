@@ -1,17 +1,23 @@
 -- How many bytes a character has in a lane.
-use Rattle.std.proofs.Common.{◌≡◌, ◌≢◌, ℕ, ◌+◌, ◌≤◌, ◌<◌, Bool, true, false, ◌==◌, ◌⊎◌, inl, inr, List, [], ◌∷◌, ◌++◌, length, get_or, replicate}
-use Rattle.std.proofs.Common.{refl, ap, sym, ◌∙◌, subst, arith, length-append, ne_eqb, ltb-true, nat_lt}
+use Rattle.std.proofs.Common.{◌≡◌, ◌≢◌, ℕ, ◌+◌, ◌≤◌, ◌<◌, Bool, true, false, ◌==◌, ◌⊎◌, inl, inr}
+use Rattle.std.proofs.Common.{List, [], ◌∷◌, ◌++◌, length, get_or, replicate}
+use Rattle.std.proofs.Common.{refl, ap, sym, ◌∙◌, subst, arith, length-append, ne_eqb, ltb-true}
+use Rattle.std.proofs.Common.{nat_lt}
 use Rattle.std.specs.List.{list_all}
-use Rattle.std.specs.Prelude.{position, Option, None, Some, if◌then◌else◌, chars, encode_utf8, encode_utf8_all}
+use Rattle.std.specs.Prelude.{position, Option, None, Some, if◌then◌else◌, chars, encode_utf8}
+use Rattle.std.specs.Prelude.{encode_utf8_all}
 use Rattle.std.specs.Char.{IsScalar, len_utf8}
 use Rattle.std.specs.Str.{is_utf8, IsUtf8, all_scalars}
 use Rattle.std.proofs.lemmas.Bool.{cond-true, cond-false, and_parts, cases_eq, cases_lt}
-use Rattle.std.proofs.lemmas.Str.{encodes-chars, scalars-chars, chars-encodes, IsUtf8-from_is_utf8, is_utf8-from_IsUtf8, length-encode, IsUtf8-encode, chars_past_char, chars-nil, len_utf8_ascii, len_utf8_bounds}
+use Rattle.std.proofs.lemmas.Str.{encodes-chars, scalars-chars, chars-encodes, IsUtf8-from_is_utf8}
+use Rattle.std.proofs.lemmas.Str.{is_utf8-from_IsUtf8, length-encode, IsUtf8-encode}
+use Rattle.std.proofs.lemmas.Str.{chars_past_char, chars-nil, len_utf8_ascii, len_utf8_bounds}
 use Rattle.std.proofs.lemmas.List.{append-nil}
 use Rattle.std.proofs.lemmas.Grind.{common_steps}
 use Rattle.qrcode_base.specs.Characters.{alphabet, is_alphanumeric, is_lead, is_between}
-use Rattle.text_reading.specs.Bytes.{ascii_character, common_character, shift_jis_character, character_of_byte, is_part, part_character}
-use Rattle.text_reading.specs.Reading.{put, each_of, read_bytes, read_shift_jis, pair_character}
+use Rattle.character_sets.specs.Bytes.{ascii_character, common_character, shift_jis_character}
+use Rattle.character_sets.specs.Bytes.{character_of_byte, is_part, part_character}
+use Rattle.character_sets.specs.Reading.{put, each_of, read_bytes, read_shift_jis, pair_character}
 use Rattle.text_plans.specs.Lanes.{IsSize, SuitsMixed, force_of, single_character}
 use Rattle.text_plans.proofs.Begins.{if_list}
 use Rattle.text_plans.proofs.Fronts.{each_front, put_is}

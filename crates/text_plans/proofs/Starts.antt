@@ -1,17 +1,23 @@
 -- Where a plan begins, and what no parts weigh less than in a manner.
-use Rattle.std.proofs.Common.{◌≡◌, ℕ, ◌+◌, ◌*◌, ◌/◌, ◌≤◌, ◌<◌, Bool, true, false, inl, inr, List, [], ◌∷◌, ◌++◌, ◌-◌, drop, length, get_or, refl, ap, sym, ◌∙◌, subst, arith}
+use Rattle.std.proofs.Common.{◌≡◌, ℕ, ◌+◌, ◌*◌, ◌/◌, ◌≤◌, ◌<◌, Bool, true, false, inl, inr, List}
+use Rattle.std.proofs.Common.{[], ◌∷◌, ◌++◌, ◌-◌, drop, length, get_or, refl, ap, sym, ◌∙◌, subst}
+use Rattle.std.proofs.Common.{arith}
 use Rattle.std.specs.Prelude.{Option, None, Some, All, if◌then◌else◌}
 use Rattle.std.proofs.lemmas.Bool.{cases_Bool}
 use Rattle.std.proofs.lemmas.List.Elements.{All-head, All-tail}
 use Rattle.qrcode_base.specs.declared.types.Version.{Version}
 use Rattle.qrcode_base.specs.declared.types.Mode.TheVariants.{Numeric, Alphanumeric, Byte, Kanji}
-use Rattle.text_reading.specs.Reading.{Part, designator, segment, is_known, has_kanji, has_no_designator, joined, read_bytes, read_parts, read_segment}
+use Rattle.character_sets.specs.Reading.{Part, designator, segment, is_known, has_kanji}
+use Rattle.character_sets.specs.Reading.{has_no_designator, joined, read_bytes, read_parts}
+use Rattle.character_sets.specs.Reading.{read_segment}
 use Rattle.text_plans.specs.Costs.{AreTextParts, HasPart, bits_of_parts}
 use Rattle.text_plans.specs.Keeping.{IsRowOf, KeepsEnough, switch_kept}
 use Rattle.text_plans.specs.Lanes.{AreAllFacts, force_of}
-use Rattle.text_plans.specs.Manners.{AreLeastIn, ArePartsIn, BeginsAsIn, begins_with_designator, mixed_in, plain_in}
+use Rattle.text_plans.specs.Manners.{AreLeastIn, ArePartsIn, BeginsAsIn, begins_with_designator}
+use Rattle.text_plans.specs.Manners.{mixed_in, plain_in}
 use Rattle.text_plans.specs.Search.{begin_in, rests_of, switch_least, weight_if}
-use Rattle.text_plans.specs.Starts.{BeginWith, HasFront, IsStart, IsStartIn, front_in, front_of, weight_as_in, weight_from}
+use Rattle.text_plans.specs.Starts.{BeginWith, HasFront, IsStart, IsStartIn, front_in, front_of}
+use Rattle.text_plans.specs.Starts.{weight_as_in, weight_from}
 use Rattle.text_plans.specs.Switches.{IsSwitch}
 use Rattle.text_plans.specs.Tables.{AreRowsOf, IsWeighed, first_weight}
 use Rattle.text_plans.specs.Ways.{AreRules, AreRulesOf, mixed_of, plain_of, weight_of}
@@ -22,11 +28,13 @@ use Rattle.text_plans.specs.declared.row.TheConstants.{BIT, LIMIT}
 use Rattle.text_plans.specs.declared.rules.Manner.{Manner}
 use Rattle.text_plans.specs.declared.rules.Manner.TheVariants.{Ascii, Paired, Designated}
 use Rattle.text_plans.specs.declared.rules.Rules.{Rules}
-use Rattle.text_plans.proofs.AllWays.{bound, parts_some, quotient, reads_so, small_bits, suits_bare, suits_mixed, suits_plain}
+use Rattle.text_plans.proofs.AllWays.{bound, parts_some, quotient, reads_so, small_bits, suits_bare}
+use Rattle.text_plans.proofs.AllWays.{suits_mixed, suits_plain}
 use Rattle.text_plans.proofs.Bounds.{if_parts, inner, lane_known, parts_bound}
 use Rattle.text_plans.proofs.Choosing.{below_limit}
 use Rattle.text_plans.proofs.Kept.{kept_is}
-use Rattle.text_plans.proofs.Rows.{begin_below, entry, entry_end, entry_step, fresh_is, switch_below, switch_first}
+use Rattle.text_plans.proofs.Rows.{begin_below, entry, entry_end, entry_step, fresh_is}
+use Rattle.text_plans.proofs.Rows.{switch_below, switch_first}
 use Rattle.text_plans.proofs.Steps.{lane_force}
 
 -- ---- The lane in which a plan begins

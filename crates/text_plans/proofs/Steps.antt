@@ -1,5 +1,7 @@
 -- Each step of writing a plan keeps what it is read as, and what it weighs with what follows.
-use Rattle.std.proofs.Common.{◌≡◌, ◌≢◌, ℕ, ◌+◌, ◌*◌, ◌≤◌, ◌<◌, Bool, true, false, ◌==◌, ◌⊎◌, inl, inr, List, [], ◌∷◌, ◌++◌, length, get_or, refl, ap, sym, ◌∙◌, subst, arith, length-append, append_assoc}
+use Rattle.std.proofs.Common.{◌≡◌, ◌≢◌, ℕ, ◌+◌, ◌*◌, ◌≤◌, ◌<◌, Bool, true, false, ◌==◌, ◌⊎◌, inl}
+use Rattle.std.proofs.Common.{inr, List, [], ◌∷◌, ◌++◌, length, get_or, refl, ap, sym, ◌∙◌, subst}
+use Rattle.std.proofs.Common.{arith, length-append, append_assoc}
 use Rattle.std.specs.Prelude.{Option, None, Some, All, if◌then◌else◌}
 use Rattle.std.proofs.lemmas.Bool.{cond-true}
 use Rattle.std.proofs.lemmas.Grind.{common_steps}
@@ -11,13 +13,16 @@ use Rattle.qrcode_base.specs.declared.types.Mode.{Mode}
 use Rattle.qrcode_base.specs.declared.types.Mode.TheVariants.{Numeric, Alphanumeric, Byte, Kanji}
 use Rattle.qrcode_base.specs.declared.types.Version.{Version}
 use Rattle.qrcode_base.specs.declared.types.Version.TheVariants.{Normal, Micro}
-use Rattle.text_reading.specs.Reading.{Part, designator, segment, is_known, has_no_designator, has_kanji, joined, read_parts, read_segment}
-use Rattle.text_plans.specs.Choices.{AddsBytes, CanBe, Makes, choice_weight, lane_after, open_value, open_weight, segment_opened}
+use Rattle.character_sets.specs.Reading.{Part, designator, segment, is_known, has_no_designator}
+use Rattle.character_sets.specs.Reading.{has_kanji, joined, read_parts, read_segment}
+use Rattle.text_plans.specs.Choices.{AddsBytes, CanBe, Makes, choice_weight, lane_after, open_value}
+use Rattle.text_plans.specs.Choices.{open_weight, segment_opened}
 use Rattle.text_plans.specs.Costs.{HasPart, bits_of_parts}
 use Rattle.text_plans.specs.Lanes.{SuitsMixed, force_of}
 use Rattle.text_plans.specs.Plan.{Written, all_parts}
 use Rattle.text_plans.specs.Ways.{AreRules}
-use Rattle.text_plans.specs.Search.{can_write, next_bits, onward, go_on, begin_in, header_weight, no_rest}
+use Rattle.text_plans.specs.Search.{can_write, next_bits, onward, go_on, begin_in, header_weight}
+use Rattle.text_plans.specs.Search.{no_rest}
 use Rattle.text_plans.specs.declared.facts.Facts.{Facts}
 use Rattle.text_plans.specs.declared.row.Rest.{Rest}
 use Rattle.text_plans.specs.declared.row.TheConstants.{BIT, LIMIT}

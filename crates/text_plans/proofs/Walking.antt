@@ -1,5 +1,7 @@
 -- A plan is written character by character.
-use Rattle.std.proofs.Common.{◌≡◌, ℕ, zero, suc, ◌+◌, ◌≤◌, ◌<◌, Bool, true, false, List, [], ◌∷◌, ◌++◌, length, get_or, take, drop, drop-cons, refl, ap, sym, ◌∙◌, subst, arith, append_assoc, inl, inr, Option, None, Some}
+use Rattle.std.proofs.Common.{◌≡◌, ℕ, zero, suc, ◌+◌, ◌≤◌, ◌<◌, Bool, true, false, List, [], ◌∷◌}
+use Rattle.std.proofs.Common.{◌++◌, length, get_or, take, drop, drop-cons, refl, ap, sym, ◌∙◌}
+use Rattle.std.proofs.Common.{subst, arith, append_assoc, inl, inr, Option, None, Some}
 use Rattle.std.proofs.lemmas.Grind.{common_steps}
 use Rattle.std.proofs.lemmas.List.{append-nil, take_more}
 use Rattle.qrcode_base.specs.declared.types.Mode.{Mode}
@@ -7,7 +9,8 @@ use Rattle.qrcode_base.specs.declared.types.Version.{Version}
 use Rattle.std.proofs.lemmas.List.Elements.{All-nil}
 use Rattle.qrcode_base.specs.declared.types.Mode.TheVariants.{Numeric, Alphanumeric, Byte, Kanji}
 use Rattle.text_plans.specs.Costs.{HasPart}
-use Rattle.text_reading.specs.Reading.{Part, designator, has_kanji, has_no_designator, read_parts, segment}
+use Rattle.character_sets.specs.Reading.{Part, designator, has_kanji, has_no_designator, read_parts}
+use Rattle.character_sets.specs.Reading.{segment}
 use Rattle.text_plans.specs.Choices.{CanBe, IsCharStep, Makes, lane_after, open_value}
 use Rattle.text_plans.specs.Lanes.{AreAllFacts, AreFacts, force_of}
 use Rattle.text_plans.specs.Plan.{Written, all_parts}
@@ -24,7 +27,8 @@ use Rattle.text_plans.specs.declared.walk.Choice.{Choice}
 use Rattle.text_plans.specs.declared.walk.Choice.TheVariants.{GoOn, Begin, Change}
 use Rattle.text_plans.proofs.Kept.{enough_from, kept_is}
 use Rattle.text_plans.proofs.Rows.{entry, entry_end, entry_step}
-use Rattle.text_plans.proofs.Steps.{AreComplete, IsDraft, OpenReads, all_complete, designated, force_after, lane_force, step}
+use Rattle.text_plans.proofs.Steps.{AreComplete, IsDraft, OpenReads, all_complete, designated}
+use Rattle.text_plans.proofs.Steps.{force_after, lane_force, step}
 
 -- ---- The facts of a text
 

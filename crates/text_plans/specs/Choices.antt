@@ -3,7 +3,7 @@ use Rattle.std.specs.Prelude.{◌≡◌, ℕ, ◌+◌, ◌≤◌, Bool, true, �
 use Rattle.std.specs.Prelude.{get_or, Option, Some, None}
 use Rattle.qrcode_base.specs.declared.types.Mode.{Mode}
 use Rattle.qrcode_base.specs.declared.types.Mode.TheVariants.{Numeric, Alphanumeric, Byte, Kanji}
-use Rattle.text_reading.specs.Reading.{Part, designator, is_shift_jis, read_segment}
+use Rattle.character_sets.specs.Reading.{Part, designator, is_shift_jis, read_segment}
 use Rattle.text_plans.specs.Lanes.{SuitsMixed, force_of}
 use Rattle.text_plans.specs.Plan.{Written, all_parts}
 use Rattle.text_plans.specs.declared.facts.Facts.{Facts}
@@ -13,7 +13,8 @@ use Rattle.text_plans.specs.declared.rules.Rules.{Rules}
 use Rattle.text_plans.specs.declared.walk.Choice.{Choice}
 use Rattle.text_plans.specs.declared.walk.Choice.TheVariants.{GoOn, Begin, Change}
 use Rattle.text_plans.specs.Keeping.{IsKeptLane, switch_kept}
-use Rattle.text_plans.specs.Search.{begin_in, go_on, can_write, lane_before, no_rest, onward, weight_if}
+use Rattle.text_plans.specs.Search.{begin_in, go_on, can_write, lane_before, no_rest, onward}
+use Rattle.text_plans.specs.Search.{weight_if}
 
 -- The least weight of what follows, by the mode and the number of bytes of the open segment.
 abbrev pub open_value : Rest → Option Mode → ℕ → ℕ

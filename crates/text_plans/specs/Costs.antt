@@ -5,7 +5,7 @@ use Rattle.std.specs.Prelude.{◌≡◌, ◌≢◌, ℕ, ◌+◌, ◌≤◌, Lis
 use Rattle.qrcode_base.specs.declared.types.Version.{Version}
 use Rattle.qrcode_base.specs.declared.types.Version.TheVariants.{Normal, Micro}
 use Rattle.qrcode_base.specs.Modes.{HasMode, characters, count_width, data_bits, indicator_width}
-use Rattle.text_reading.specs.Reading.{Part, IsReadAs, designator, segment}
+use Rattle.character_sets.specs.Reading.{Part, IsReadAs, designator, segment}
 
 -- A version can have a part: a segment of some bytes in a mode that it has, or, in a Normal
 -- version, a designator.

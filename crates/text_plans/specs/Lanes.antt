@@ -1,10 +1,11 @@
 -- The lanes in which a text is written: each is what is in force for bytes, by a number. No promise
 -- rests on them.
-use Rattle.std.specs.Prelude.{◌≡◌, ◌≢◌, ℕ, ◌+◌, ◌≤◌, Bool, true, false, ◌==◌, List, ◌∷◌, [], length, get_or}
+use Rattle.std.specs.Prelude.{◌≡◌, ◌≢◌, ℕ, ◌+◌, ◌≤◌, Bool, true, false, ◌==◌, List, ◌∷◌, [], length}
+use Rattle.std.specs.Prelude.{get_or}
 use Rattle.std.specs.Prelude.{Option, None, Some, if◌then◌else◌, ◌<◌, nat_lt}
 use Rattle.qrcode_base.specs.Characters.{is_between, is_alphanumeric}
-use Rattle.text_reading.specs.Bytes.{character_of_byte, common_character}
-use Rattle.text_reading.specs.Reading.{pair_character, read_bytes}
+use Rattle.character_sets.specs.Bytes.{character_of_byte, common_character}
+use Rattle.character_sets.specs.Reading.{pair_character, read_bytes}
 use Rattle.text_plans.specs.declared.facts.Facts.{Facts}
 
 -- The designator of a lane. In the lanes 0 and 16 there is none: in a symbol without a Kanji

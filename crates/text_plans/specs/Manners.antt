@@ -1,10 +1,11 @@
 -- How all symbols of a sequence are written, so that readers that take each symbol by itself and
 -- readers that join them find one text. A reader that joins them keeps a designator in force from
 -- one symbol to the next, and takes bytes for JIS X 0201 if any of the symbols has a Kanji segment.
-use Rattle.std.specs.Prelude.{◌≡◌, ℕ, ◌≤◌, Bool, true, false, List, [], ◌∷◌, length, All, None, Some}
+use Rattle.std.specs.Prelude.{◌≡◌, ℕ, ◌≤◌, Bool, true, false, List, [], ◌∷◌, length, All, None}
+use Rattle.std.specs.Prelude.{Some}
 use Rattle.qrcode_base.specs.declared.types.Version.{Version}
-use Rattle.text_reading.specs.Reading.{Part, designator, segment, has_kanji, has_no_designator}
-use Rattle.text_reading.specs.Reading.{read_parts}
+use Rattle.character_sets.specs.Reading.{Part, designator, segment, has_kanji, has_no_designator}
+use Rattle.character_sets.specs.Reading.{read_parts}
 use Rattle.text_plans.specs.Costs.{HasPart, bits_of_parts}
 use Rattle.text_plans.specs.declared.rules.Manner.{Manner}
 use Rattle.text_plans.specs.declared.rules.Manner.TheVariants.{Ascii, Paired, Designated}

@@ -1,7 +1,7 @@
 -- The parts of a plan: designators, and segments whose bytes stand one after the other.
 use Rattle.std.specs.Prelude.{ℕ, ◌≤◌, List, [], ◌∷◌, ◌++◌, map, Option, Some, None, slice_range}
 use Rattle.qrcode_base.specs.declared.types.Mode.{Mode}
-use Rattle.text_reading.specs.Reading.{Part, designator, segment}
+use Rattle.character_sets.specs.Reading.{Part, designator, segment}
 use Rattle.text_plans.specs.declared.plan.PlanPart.{PlanPart}
 use Rattle.text_plans.specs.declared.plan.PlanPart.TheVariants.{Designator, Segment}
 

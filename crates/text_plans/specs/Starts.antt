@@ -3,7 +3,7 @@
 use Rattle.std.specs.Prelude.{◌≡◌, ℕ, ◌+◌, ◌≤◌, ◌<◌, ◌⊎◌, List, [], ◌∷◌, ◌++◌, get_or}
 use Rattle.std.specs.Prelude.{Option, None, Some}
 use Rattle.qrcode_base.specs.declared.types.Version.{Version}
-use Rattle.text_reading.specs.Reading.{Part, designator}
+use Rattle.character_sets.specs.Reading.{Part, designator}
 use Rattle.text_plans.specs.Keeping.{IsKeptLane}
 use Rattle.text_plans.specs.Lanes.{force_of}
 use Rattle.text_plans.specs.Search.{no_rest, rests_of, switch_least}

@@ -1,7 +1,8 @@
 -- What follows each character of a text, and plans of the least weight. No promise rests on them.
-use Rattle.std.specs.Prelude.{◌≡◌, ℕ, ◌+◌, ◌-◌, ◌≤◌, Bool, true, List, [], length, get_or, drop, All, None, Some}
+use Rattle.std.specs.Prelude.{◌≡◌, ℕ, ◌+◌, ◌-◌, ◌≤◌, Bool, true, List, [], length, get_or, drop}
+use Rattle.std.specs.Prelude.{All, None, Some}
 use Rattle.qrcode_base.specs.declared.types.Version.{Version}
-use Rattle.text_reading.specs.Reading.{Part, has_kanji, has_no_designator, read_parts}
+use Rattle.character_sets.specs.Reading.{Part, has_kanji, has_no_designator, read_parts}
 use Rattle.text_plans.specs.Costs.{AreTextParts, HasPart}
 use Rattle.text_plans.specs.Keeping.{IsRowOf}
 use Rattle.text_plans.specs.Lanes.{AreAllFacts}

@@ -4,7 +4,7 @@ use Rattle.std.specs.Prelude.{◌≡◌, ℕ, ◌+◌, ◌*◌, ◌<◌, Bool, t
 use Rattle.qrcode_base.specs.Modes.{HasMode, count_width, indicator_width}
 use Rattle.qrcode_base.specs.declared.types.Mode.{Mode}
 use Rattle.qrcode_base.specs.declared.types.Version.{Version}
-use Rattle.text_reading.specs.Reading.{Part, designator, is_shift_jis}
+use Rattle.character_sets.specs.Reading.{Part, designator, is_shift_jis}
 use Rattle.text_plans.specs.Costs.{HasPart, bits_of_parts}
 use Rattle.text_plans.specs.Lanes.{SuitsMixed, force_of}
 use Rattle.text_plans.specs.Search.{header_weight}

@@ -2,13 +2,13 @@
 
 ghost use Rattle.std.specs.Prelude.{◌≡◌, ◌≢◌, ◌<◌, ◌≤◌, ℕ, All, get_or, IfSome, Some, true, false};
 ghost use Rattle.qrcode_base.specs.Characters.{is_alphanumeric};
-ghost use Rattle.text_reading.specs.Bytes.{common_character};
-ghost use Rattle.text_reading.specs.Reading.{pair_character};
+ghost use Rattle.character_sets.specs.Bytes.{common_character};
+ghost use Rattle.character_sets.specs.Reading.{pair_character};
 ghost use Rattle.text_plans.specs.Lanes.{IsSize, AreFacts, column_of, single_character};
 
 use crate::lanes::designator_of;
+use character_sets::{byte_of, pair_of, part_bytes};
 use qrcode_base::characters::is_alphanumeric;
-use text_reading::{byte_of, pair_of, part_bytes};
 
 /// Whether a character is a digit, an Alphanumeric character, or a pair of the Kanji mode, and its
 /// number of bytes in each lane, 0 if it has none there.

@@ -2,7 +2,7 @@
 
 ghost use Rattle.std.specs.Prelude.{◌≡◌, ◌≤◌, ◌<◌, ◌⊎◌, ℕ, List, chars, true, IfOk, IfSome, IfNone};
 ghost use Rattle.qrcode_base.specs.Symbols.{HasMicroNumber};
-ghost use Rattle.text_reading.specs.Reading.{Part};
+ghost use Rattle.character_sets.specs.Reading.{Part};
 ghost use Rattle.text_plans.specs.Costs.{AreLeast, AreTextParts, bits_of_parts};
 ghost use Rattle.text_plans.specs.Keeping.{AreEnough, KeepsEnough};
 ghost use Rattle.text_plans.specs.Lanes.{AreAllFacts};

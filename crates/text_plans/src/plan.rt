@@ -1,7 +1,7 @@
 //! Plans: how a text is written.
 
 ghost use Rattle.std.specs.Prelude.{◌≡◌, ◌++◌, ◌∷◌, [], All, length, None, Some, OnOk, IfOk};
-ghost use Rattle.text_reading.specs.Reading.{designator};
+ghost use Rattle.character_sets.specs.Reading.{designator};
 ghost use Rattle.text_plans.specs.Plan.{Plan, LiesWithin, Written, all_parts, plan_parts};
 
 use qrcode_base::types::Mode;

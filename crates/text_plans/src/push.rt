@@ -4,14 +4,15 @@ ghost use Rattle.std.specs.Prelude.{◌≡◌, ◌≢◌, ◌<◌, true, get_or,
 ghost use Rattle.text_plans.specs.Choices.{AddsBytes, char_size};
 ghost use Rattle.text_plans.specs.Lanes.{AreFacts};
 ghost use Rattle.text_plans.specs.Search.{can_write};
-ghost use Rattle.qrcode_base.specs.declared.types.Mode.TheVariants.{Numeric, Alphanumeric, Byte, Kanji};
+ghost use Rattle.qrcode_base.specs.declared.types.Mode.TheVariants.{Numeric, Alphanumeric, Byte};
+ghost use Rattle.qrcode_base.specs.declared.types.Mode.TheVariants.{Kanji};
 
 use crate::facts::{Facts, single_in};
 use crate::plan::Draft;
 use crate::rules::Rules;
+use character_sets::{byte_of, pair_of};
 use qrcode_base::types::Mode;
 use std::alloc::AllocError;
-use text_reading::{byte_of, pair_of};
 
 /// Appends the bytes of a character in a lane, of which it has some.
 fn push_bytes(draft: &mut Draft, c: char, facts: &Facts, lane: usize) -> Result<(), AllocError>

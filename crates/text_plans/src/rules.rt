@@ -3,7 +3,7 @@
 ghost use Rattle.std.specs.Prelude.{◌≡◌, ◌+◌, ◌*◌, ◌<◌, ◌↔◌, ℕ, IsTrue, false};
 ghost use Rattle.qrcode_base.specs.Modes.{HasMode, count_width, indicator_width};
 ghost use Rattle.qrcode_base.specs.Symbols.{HasMicroNumber};
-ghost use Rattle.text_reading.specs.Reading.{designator};
+ghost use Rattle.character_sets.specs.Reading.{designator};
 ghost use Rattle.text_plans.specs.Costs.{HasPart};
 ghost use Rattle.text_plans.specs.Manners.{mixed_in, plain_in};
 ghost use Rattle.text_plans.specs.Ways.{AreLanes, AreRulesOf, mixed_of, plain_of};

@@ -1,12 +1,12 @@
-//! Bytes that are no text, by `byte_symbols`.
+//! Bytes that are no text, by `smallest_symbols`.
 ghost use Rattle.std.specs.Prelude.{IfOk};
-ghost use Rattle.byte_symbols.specs.ByteHeadline.{IsStrongestWithoutKanji};
+ghost use Rattle.smallest_symbols.specs.ByteHeadline.{IsStrongestWithoutKanji};
 ghost use Rattle.qrcode_core.specs.Symbol.{TellsReading};
 
-use byte_symbols::bytes_without_kanji;
 use qrcode_core::SymbolOptions;
 use qrcode_core::symbol::Symbol;
 use qrcode_core::types::{EcLevel, QrResult};
+use smallest_symbols::bytes_without_kanji;
 use std::alloc::Global;
 
 /// Returns the symbol of a key at level Q, or at H where it is no larger, for readers that show

@@ -1,20 +1,20 @@
-//! The smallest symbols of a text, by `text_symbols`, `text_cuts` and `text_sequences`.
+//! The smallest symbols of a text, by `smallest_symbols`.
 ghost use Rattle.std.specs.Prelude.{◌⊎◌, ℕ, List, map, All, chars, IfOk};
 ghost use Rattle.qrcode_bits.specs.Plans.{micro};
 ghost use Rattle.qrcode_core.specs.Symbol.{modules_of};
-ghost use Rattle.text_cuts.specs.TextCuts.{AreBestTextCuts};
-ghost use Rattle.text_sequences.specs.TextMessages.{AreSmallestTextSymbols};
-ghost use Rattle.text_sequences.specs.TextPieces.{TellsPieceReading};
-ghost use Rattle.text_symbols.specs.TextHeadline.{IsSmallestInRange, IsSmallestText};
-ghost use Rattle.text_symbols.specs.TextHeadline.{TellsTextReading};
+ghost use Rattle.smallest_symbols.specs.TextCuts.{AreBestTextCuts};
+ghost use Rattle.smallest_symbols.specs.TextMessages.{AreSmallestTextSymbols};
+ghost use Rattle.smallest_symbols.specs.TextPieces.{TellsPieceReading};
+ghost use Rattle.smallest_symbols.specs.TextHeadline.{IsSmallestInRange, IsSmallestText};
+ghost use Rattle.smallest_symbols.specs.TextHeadline.{TellsTextReading};
 
 use qrcode_core::SymbolOptions;
 use qrcode_core::symbol::Symbol;
 use qrcode_core::types::{EcLevel, QrError, QrResult};
+use smallest_symbols::{
+    MicroTextError, micro_text, smallest_text, smallest_text_cuts, smallest_text_sequence,
+};
 use std::alloc::Global;
-use text_cuts::smallest_text_cuts;
-use text_sequences::smallest_text_sequence;
-use text_symbols::{MicroTextError, micro_text, smallest_text};
 
 /// Returns the symbol of a text at level M: the smallest Micro symbol, or the smallest Normal one
 /// where no Micro symbol is read as the text or has room for it.

@@ -6,7 +6,7 @@ use Rattle.single_label.specs.Contents.{is_all_ascii, IsAutoRefusal}
 use Rattle.single_label.proofs.StopLemmas.{if_err, on_ok}
 use Rattle.single_label.proofs.TextLengths.{text_length}
 use Rattle.single_label.proofs.content.auto_symbol.Goals as goal
-use Rattle.text_symbols.specs.TextHeadline.{IsTextRefused}
+use Rattle.smallest_symbols.specs.TextHeadline.{IsTextRefused}
 
 pub returns-in-Ok-clause-refusal : goal.returns-in-Ok-clause-refusal
 returns-in-Ok-clause-refusal c =

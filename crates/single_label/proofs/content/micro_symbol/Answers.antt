@@ -1,8 +1,8 @@
 -- The error is that of the text.
 use Rattle.std.proofs.Common.{chars, subst}
 use Rattle.single_label.proofs.content.micro_symbol.Goals as goal
-use Rattle.text_symbols.specs.TextHeadline.{IsMicroTextRefused}
-use Rattle.text_symbols.specs.declared.micro.MicroTextError.TheVariants.{Symbol}
+use Rattle.smallest_symbols.specs.TextHeadline.{IsMicroTextRefused}
+use Rattle.smallest_symbols.specs.declared.micro_texts.MicroTextError.TheVariants.{Symbol}
 
 pub returns-in-Err-Symbol-clause-refusal : goal.returns-in-Err-Symbol-clause-refusal
 returns-in-Err-Symbol-clause-refusal c =

@@ -5,8 +5,8 @@ use Rattle.std.specs.Prelude.{nat_abs}
 use mir.Val.{to_z, of_z}
 use mir.Syntax.{w16}
 use Rattle.qrcode_core.specs.{Symbol.modules_of}
-use Rattle.text_cuts.specs.TextCuts.{AreBestTextCuts}
-use Rattle.text_sequences.specs.TextMessages.{AreSmallestTextSymbols, IsTextSequenceRefusal}
+use Rattle.smallest_symbols.specs.TextCuts.{AreBestTextCuts}
+use Rattle.smallest_symbols.specs.TextMessages.{AreSmallestTextSymbols, IsTextSequenceRefusal}
 use Rattle.single_label.specs.Parts.{IsSmallestSequence, IsSmallestSequenceFault}
 use Rattle.single_label.proofs.{PartLemmas.smallest_fault, StopLemmas.if_err, StopLemmas.if_ok}
 use Rattle.single_label.proofs.parts.smallest_parts.Goals as goal

@@ -1,6 +1,6 @@
 -- Elsewhere a byte is what it is by the designator of the lane.
 use Rattle.std.proofs.Common.{◌≡◌, ℕ, false, ◌==◌, ap, sym, subst, ◌∙◌, ne_eqb, Option, Some}
-use Rattle.text_reading.specs.Bytes.{character_of_byte}
+use Rattle.character_sets.specs.Bytes.{character_of_byte}
 use Rattle.text_plans.proofs.Sizes.{is_other}
 use Rattle.text_plans.proofs.facts.single_in.Goals as goal
 

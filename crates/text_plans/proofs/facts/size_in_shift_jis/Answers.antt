@@ -1,6 +1,6 @@
 -- A single byte, a pair, or neither.
 use Rattle.std.proofs.Common.{◌≡◌, ℕ, None, Some, sym, ◌∙◌, refl}
-use Rattle.text_reading.specs.Bytes.{character_of_byte, shift_jis_character}
+use Rattle.character_sets.specs.Bytes.{character_of_byte, shift_jis_character}
 use Rattle.text_plans.proofs.Sizes.{kana_size, no_shift_jis, pair_size}
 use Rattle.text_plans.proofs.facts.size_in_shift_jis.Goals as goal
 

@@ -1,9 +1,10 @@
 -- Each lane has its size: that of its part, of Shift JIS, of UTF-8, or none.
-use Rattle.std.proofs.Common.{◌≡◌, ◌≢◌, ◌∙◌, ℕ, ◌+◌, ◌-◌, ◌<◌, length, get_or, subst, sym, refl, inl, inr, arith, below_more, get_or-set_other, get_or-set_same}
+use Rattle.std.proofs.Common.{◌≡◌, ◌≢◌, ◌∙◌, ℕ, ◌+◌, ◌-◌, ◌<◌, length, get_or, subst, sym, refl}
+use Rattle.std.proofs.Common.{inl, inr, arith, below_more, get_or-set_other, get_or-set_same}
 use Rattle.std.proofs.Math.ListN.{length-set}
 use Rattle.std.proofs.lemmas.Bool.{cases_lt}
 use Rattle.std.proofs.lemmas.Grind.{common_steps}
-use Rattle.text_reading.specs.Bytes.{IsPartByte}
+use Rattle.character_sets.specs.Bytes.{IsPartByte}
 use Rattle.text_plans.specs.Lanes.{IsSize}
 use Rattle.text_plans.proofs.PartSizes.{first_size, last_size, part_size}
 use Rattle.text_plans.proofs.Sizes.{utf8_size}

@@ -1,12 +1,14 @@
 -- What is appended is read again, and has the size that was found.
-use Rattle.std.proofs.Common.{◌≡◌, ℕ, ◌∷◌, [], ap, sym, subst, ◌∙◌, None, Some, get_or, length, encode_utf8, List, OnOk}
+use Rattle.std.proofs.Common.{◌≡◌, ℕ, ◌∷◌, [], ap, sym, subst, ◌∙◌, None, Some, get_or, length}
+use Rattle.std.proofs.Common.{encode_utf8, List, OnOk}
 use Rattle.std.specs.Char.{len_utf8}
 use Rattle.qrcode_base.specs.declared.types.Mode.TheVariants.{Byte}
-use Rattle.text_reading.specs.Reading.{read_bytes}
+use Rattle.character_sets.specs.Reading.{read_bytes}
 use Rattle.text_plans.specs.Choices.{AddsBytes}
 use Rattle.text_plans.specs.Lanes.{force_of, IsSize, single_character}
 use Rattle.text_plans.proofs.Adding.{byte_reads}
-use Rattle.text_plans.proofs.Sizes.{no_size, one_size, single_lane, single_read, utf8_size, utf8_reads, one_size_only, some_size}
+use Rattle.text_plans.proofs.Sizes.{no_size, one_size, single_lane, single_read, utf8_size}
+use Rattle.text_plans.proofs.Sizes.{utf8_reads, one_size_only, some_size}
 use Rattle.text_plans.proofs.push.push_bytes.Goals as goal
 
 pub returns-then-lane-eq14 : goal.returns-then-lane-eq14

@@ -1,9 +1,10 @@
 -- What is appended is read again, and has the size that was found.
 use Rattle.std.proofs.Common.{◌≡◌, ℕ, ◌∷◌, [], refl, sym, ◌∙◌, None, Some, get_or, arith}
-use Rattle.text_reading.specs.Bytes.{character_of_byte, shift_jis_character}
+use Rattle.character_sets.specs.Bytes.{character_of_byte, shift_jis_character}
 use Rattle.text_plans.specs.Lanes.{force_of, IsSize}
 use Rattle.text_plans.proofs.Adding.{byte_reads}
-use Rattle.text_plans.proofs.Sizes.{kana_size, kana_reads, pair_size, pair_reads, no_shift_jis, one_size_only, some_size}
+use Rattle.text_plans.proofs.Sizes.{kana_size, kana_reads, pair_size, pair_reads, no_shift_jis}
+use Rattle.text_plans.proofs.Sizes.{one_size_only, some_size}
 use Rattle.text_plans.proofs.push.push_shift_jis.Goals as goal
 
 by_designator : (byte : ℕ) → character_of_byte (Some 20) byte ≡ shift_jis_character byte

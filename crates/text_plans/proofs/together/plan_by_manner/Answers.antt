@@ -1,6 +1,6 @@
 -- What is written is the least of the manner.
 use Rattle.std.proofs.Common.{◌≤◌, ◌<◌, ℕ, Bool, List, arith, subst, sym}
-use Rattle.text_reading.specs.Reading.{Part}
+use Rattle.character_sets.specs.Reading.{Part}
 use Rattle.text_plans.specs.Lanes.{AreAllFacts}
 use Rattle.text_plans.specs.Manners.{ArePartsIn, mixed_in, plain_in}
 use Rattle.text_plans.specs.Plan.{plan_parts}

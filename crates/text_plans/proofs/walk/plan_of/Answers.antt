@@ -1,8 +1,9 @@
 -- Each character is written as the rows say.
-use Rattle.std.proofs.Common.{◌≡◌, ℕ, ◌+◌, ◌-◌, ◌≤◌, ◌<◌, List, length, drop, get_or, ap, sym, ◌∙◌, subst, arith, [], false}
+use Rattle.std.proofs.Common.{◌≡◌, ℕ, ◌+◌, ◌-◌, ◌≤◌, ◌<◌, List, length, drop, get_or, ap, sym, ◌∙◌}
+use Rattle.std.proofs.Common.{subst, arith, [], false}
 use Rattle.std.specs.Prelude.{Option}
 use Rattle.qrcode_base.specs.declared.types.Mode.{Mode}
-use Rattle.text_reading.specs.Reading.{Part}
+use Rattle.character_sets.specs.Reading.{Part}
 use Rattle.text_plans.specs.Choices.{IsCharStep, open_value}
 use Rattle.text_plans.specs.Lanes.{AreFacts}
 use Rattle.text_plans.specs.Plan.{Written}
@@ -16,7 +17,8 @@ use Rattle.text_plans.specs.declared.row.Rest.{Rest}
 use Rattle.text_plans.specs.declared.row.TheConstants.{LIMIT}
 use Rattle.text_plans.specs.declared.rules.Rules.{Rules}
 use Rattle.text_plans.proofs.Rows.{entry}
-use Rattle.text_plans.proofs.Walking.{all_begin, walk_first, walk_more, walked, before_is, none_open, value_small, facts_at, facts_long}
+use Rattle.text_plans.proofs.Walking.{all_begin, walk_first, walk_more, walked, before_is}
+use Rattle.text_plans.proofs.Walking.{none_open, value_small, facts_at, facts_long}
 use Rattle.text_plans.proofs.walk.plan_of.Goals as goal
 
 abbrev none : Facts

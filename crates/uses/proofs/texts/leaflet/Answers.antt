@@ -2,7 +2,7 @@
 use Rattle.std.proofs.Common.{ℕ, List, subst, sym}
 use Rattle.std.proofs.lemmas.Result.{IfOk-weaker}
 use Rattle.qrcode_base.specs.declared.types.EcLevel.TheVariants.{M}
-use Rattle.text_cuts.specs.TextCuts.{AreBestTextCuts}
+use Rattle.smallest_symbols.specs.TextCuts.{AreBestTextCuts}
 use Rattle.uses.proofs.texts.leaflet.Goals as goal
 
 pub returns-clause-fewest : goal.returns-clause-fewest

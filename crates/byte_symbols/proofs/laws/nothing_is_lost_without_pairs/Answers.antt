@@ -1,5 +1,0 @@
-use Rattle.byte_symbols.proofs.WithoutPairs.{as_large}
-use Rattle.byte_symbols.proofs.laws.nothing_is_lost_without_pairs.Goals as goal
-
-pub returns : goal.returns
-returns c = as_large

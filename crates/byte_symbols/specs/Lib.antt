@@ -1,3 +1,0 @@
-pub mod BytePieces
-pub mod ByteChoices
-pub mod ByteHeadline

@@ -1,0 +1,7 @@
+-- The characters are those of the text.
+use Rattle.std.proofs.Common.{rules}
+use Rattle.std.proofs.lemmas.Str.{chars_from_encodes}
+use Rattle.smallest_symbols.proofs.normal_texts.char_count.Goals as goal
+
+pub returns : goal.returns
+returns c = search (rules, chars_from_encodes)

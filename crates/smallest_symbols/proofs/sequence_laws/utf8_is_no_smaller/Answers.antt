@@ -1,0 +1,5 @@
+use Rattle.smallest_symbols.proofs.Utf8Pieces.{utf8_no_smaller}
+use Rattle.smallest_symbols.proofs.sequence_laws.utf8_is_no_smaller.Goals as goal
+
+pub returns : goal.returns
+returns c = utf8_no_smaller

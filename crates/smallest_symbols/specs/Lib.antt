@@ -1,0 +1,13 @@
+pub mod Holding
+pub mod BytePieces
+pub mod ByteChoices
+pub mod ByteHeadline
+pub mod TextFrames
+pub mod TextChoices
+pub mod TextHeadline
+pub mod MicroTexts
+pub mod TextParts
+pub mod TextCuts
+pub mod PieceFrames
+pub mod TextPieces
+pub mod TextMessages

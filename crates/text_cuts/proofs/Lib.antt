@@ -1,5 +1,0 @@
-pub mod Splits
-pub mod Shorter
-pub mod Slices
-pub mod FewestCuts
-pub mod BestCuts

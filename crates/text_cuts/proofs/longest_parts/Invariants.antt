@@ -1,6 +1,0 @@
--- The first cuts were made, and the next part begins at the place of index `first`.
-use Rattle.text_cuts.proofs.FewestCuts.{AreCutsUpTo}
-use Rattle.text_cuts.proofs.longest_parts.Given as goal
-
-abbrev pub invariant-loop-count : goal.invariant-loop-count
-invariant-loop-count l = AreCutsUpTo l.manner l.text l.level l.limit l.places l.first l.count l.cuts.items

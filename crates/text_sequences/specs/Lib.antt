@@ -1,3 +1,0 @@
-pub mod PieceFrames
-pub mod TextPieces
-pub mod TextMessages

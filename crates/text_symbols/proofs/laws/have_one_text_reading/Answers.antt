@@ -1,5 +1,0 @@
-use Rattle.text_symbols.proofs.TextHeadline.{one_text_reading}
-use Rattle.text_symbols.proofs.laws.have_one_text_reading.Goals as goal
-
-pub returns : goal.returns
-returns c = one_text_reading

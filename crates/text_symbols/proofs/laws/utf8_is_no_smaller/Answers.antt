@@ -1,5 +1,0 @@
-use Rattle.text_symbols.proofs.Found.{utf8_no_smaller}
-use Rattle.text_symbols.proofs.laws.utf8_is_no_smaller.Goals as goal
-
-pub returns : goal.returns
-returns c = utf8_no_smaller

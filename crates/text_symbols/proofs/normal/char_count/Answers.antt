@@ -1,7 +1,0 @@
--- The characters are those of the text.
-use Rattle.std.proofs.Common.{rules}
-use Rattle.std.proofs.lemmas.Str.{chars_from_encodes}
-use Rattle.text_symbols.proofs.normal.char_count.Goals as goal
-
-pub returns : goal.returns
-returns c = search (rules, chars_from_encodes)

@@ -1,4 +1,0 @@
-pub mod TextFrames
-pub mod TextChoices
-pub mod TextHeadline
-pub mod MicroTexts
