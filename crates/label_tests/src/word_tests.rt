@@ -194,7 +194,11 @@ static WRONG_VALUES: [Wrong; 55] = [
         DPMM,
     ),
     (&["-f", "svg", "--dpmm", "8"], "invalid --dpmm '8': ", DPMM),
-    (&["-f", "zpl", "--dpmm", "8"], "invalid --dpmm '8': ", DPMM),
+    (
+        &["-f", "escpos", "--dpmm", "8"],
+        "invalid --dpmm '8': ",
+        DPMM,
+    ),
     (
         &["-f", "png", "--dpmm", "8", "--dpi", "203.2"],
         "invalid --dpmm '8': ",
