@@ -413,7 +413,8 @@ typedef struct sicklespan_settings {
                         * around a Micro symbol */
     int32_t module_mm; /* of SVG, PNG, EPS and PDF: a module in hundredths of a millimetre, 5 to
                         * 1000 */
-    int32_t dpi;       /* of PNG, not beside module_mm: the pixels in an inch, 50 to 2400 */
+    int32_t dpi;       /* of PNG, not beside module_mm: the pixels in an inch, 50 to 2400; of ZPL,
+                        * whose labels stay the same */
     int32_t inverted;  /* of text: if it is not 0, the light pixels are filled, for a dark screen */
     int32_t at_x;      /* of ZPL: the column of the upper left corner in dots, 0 to 18000 */
     int32_t at_y;      /* of ZPL: its row; with one of both the other is 0 */

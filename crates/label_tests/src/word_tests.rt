@@ -18,9 +18,9 @@ and escpos, 1 to 64 whole dots";
 
 /// The lines for resolutions that are wrong.
 const DPI: &str =
-    "50 to 2400, at most one decimal, for png; with --module-mm for zpl and escpos, too";
+    "50 to 2400, at most one decimal, for png and zpl; with --module-mm for escpos, too";
 
-const DPMM: &str = "2 to 94, not with --dpi, for png; with --module-mm for zpl and escpos, too";
+const DPMM: &str = "2 to 94, not with --dpi, for png and zpl; with --module-mm for escpos, too";
 
 /// What colors can be.
 const DARK: &str =
@@ -194,7 +194,11 @@ static WRONG_VALUES: [Wrong; 55] = [
         DPMM,
     ),
     (&["-f", "svg", "--dpmm", "8"], "invalid --dpmm '8': ", DPMM),
-    (&["-f", "zpl", "--dpmm", "8"], "invalid --dpmm '8': ", DPMM),
+    (
+        &["-f", "escpos", "--dpmm", "8"],
+        "invalid --dpmm '8': ",
+        DPMM,
+    ),
     (
         &["-f", "png", "--dpmm", "8", "--dpi", "203.2"],
         "invalid --dpmm '8': ",

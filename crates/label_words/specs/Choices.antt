@@ -90,10 +90,6 @@ is_drawn_in_dots EscPos = true
 is_drawn_in_dots Zpl = true
 is_drawn_in_dots _ = false
 
-abbrev pub is_png : FormatOf → Bool
-is_png Png = true
-is_png _ = false
-
 -- Whether pictures of a format are pages.
 abbrev pub is_pdf : FormatOf → Bool
 is_pdf Pdf = true

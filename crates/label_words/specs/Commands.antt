@@ -25,10 +25,10 @@ use Rattle.label_words.specs.declared.command.{Details.Details, Turn.Turn, Turn.
 use Rattle.label_words.specs.declared.words.Name.TheVariants.{Copies, Compressed, Feed, Cut, Rotate}
 use Rattle.label_words.specs.declared.words.Name.TheVariants.{Dark, Light, AnyColors, Domain, Hri, NoKanji, Dpmm, Upper}
 use Rattle.label_words.specs.Choices.{level_named, content_named, turn_named, format_named, format_of_ending}
-use Rattle.label_words.specs.Choices.{is_link, is_micro_content, is_drawn_in_dots, has_elements, is_png, is_terminal}
+use Rattle.label_words.specs.Choices.{is_link, is_micro_content, is_drawn_in_dots, has_elements, is_terminal}
 use Rattle.gs1_base.specs.Domains.{is_domain}
 use Rattle.label_words.specs.Portions.{Portion, portion_asked, terminal_asked, details_asked}
-use Rattle.picture_settings.specs.Formats.{has_caption}
+use Rattle.picture_settings.specs.Formats.{has_caption, has_dots}
 use Rattle.picture_settings.specs.Xml.{is_xml_text}
 use Rattle.programs.specs.Quotes.{has_control}
 use Rattle.picture_settings.specs.OptionWords.{word_number, word_position, word_tenths, word_thousandths}
@@ -233,7 +233,7 @@ with_dots format module_um dpi_tenths wishes =
     else (dots_asked module_um dpi_tenths >>= (λ dots. Ok (record wishes {
       scale = Some dots;
       module_um = None;
-      dpi_tenths = if is_png format then Some dpi_tenths else None;
+      dpi_tenths = if has_dots format then Some dpi_tenths else None;
     }))))
 
 -- The wishes with the whole dots that a module of a size in millimetres has at a resolution.

@@ -68,10 +68,10 @@ module_text =
 
 -- What the number of dots of an inch and of a millimetre can be.
 abbrev pub dpi_text : List ℕ
-dpi_text = codes "50 to 2400, at most one decimal, for png; with --module-mm for zpl and escpos, too"
+dpi_text = codes "50 to 2400, at most one decimal, for png and zpl; with --module-mm for escpos, too"
 
 abbrev pub dpmm_text : List ℕ
-dpmm_text = codes "2 to 94, not with --dpi, for png; with --module-mm for zpl and escpos, too"
+dpmm_text = codes "2 to 94, not with --dpi, for png and zpl; with --module-mm for escpos, too"
 
 -- What the name of the output can be.
 abbrev pub output_text : List ℕ

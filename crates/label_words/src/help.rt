@@ -52,8 +52,8 @@ Picture:
   -q, --quiet N         light margin in modules, 0 to 16; default: 4, of micro 2
       --module-mm MM    size of a module, 0.05 to 10 (svg, png, eps, pdf; with --dpi
                         or --dpmm png, zpl, escpos: the nearest whole dots)
-      --dpi N           dots an inch, 50 to 2400, as 203.2 (png; with --module-mm also
-                        zpl, escpos)
+      --dpi N           dots an inch, 50 to 2400, as 203.2 (png, zpl; with --module-mm
+                        also escpos)
       --dpmm N          dots a millimetre in place of --dpi, 2 to 94: 8 are --dpi 203.2
       --rotate DEGREES  turn the symbol clockwise: 0, 90, 180 or 270; default: 0
       --inverted        for light text on a dark screen (terminal)

@@ -20,10 +20,10 @@ with --dpi or --dpmm for png, zpl and escpos, 1 to 64 whole dots";
 
 /// What the number of dots of an inch can be.
 const DPI: &str =
-    "50 to 2400, at most one decimal, for png; with --module-mm for zpl and escpos, too";
+    "50 to 2400, at most one decimal, for png and zpl; with --module-mm for escpos, too";
 
 /// What the number of dots of a millimetre can be.
-const DPMM: &str = "2 to 94, not with --dpi, for png; with --module-mm for zpl and escpos, too";
+const DPMM: &str = "2 to 94, not with --dpi, for png and zpl; with --module-mm for escpos, too";
 
 /// What the name of the output can be.
 const OUTPUT: &str = "\

@@ -204,7 +204,7 @@ pub fn in_dots<'a>(format: Format, mut settings: Settings<'a>) -> Result<Setting
     }
     settings.scale = Some(dots_of(module_um, dpi_tenths)?);
     settings.module_um = None;
-    if format != Format::Png {
+    if !format.has_dots() {
         settings.dpi_tenths = None;
     }
     Ok(settings)

@@ -38,6 +38,7 @@ has_millimetres _ = false
 -- A pixel has a size, as a number of dots per inch.
 abbrev pub has_dots : Format → Bool
 has_dots Png = true
+has_dots Zpl = true
 has_dots _ = false
 
 -- The picture has a title.

@@ -59,7 +59,7 @@ impl Format {
     pub fn has_dots(self) -> bool
         ensures { result ≡ has_dots self }
     {
-        matches!(self, Format::Png)
+        matches!(self, Format::Png | Format::Zpl)
     }
 
     /// Whether the picture can have a title.

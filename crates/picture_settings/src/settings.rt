@@ -14,8 +14,9 @@ pub struct Settings<'a> {
     pub quiet: Option<usize>,
     /// The width of a module in micrometres, 50 to 10,000: of SVG, PNG, EPS and PDF.
     pub module_um: Option<usize>,
-    /// The number of pixels in ten inches, 500 to 24,000: of PNG, and not beside `module_um`. 2,032
-    /// are 8 in a millimetre.
+    /// The number of pixels in ten inches, 500 to 24,000: of PNG, and not beside `module_um`; of
+    /// ZPL, for the text below the picture, whose characters are at least 2 mm high then. 2,032 are
+    /// 8 in a millimetre.
     pub dpi_tenths: Option<usize>,
     /// Whether the light pixels are filled, for a dark screen: of `Terminal`.
     pub inverted: bool,

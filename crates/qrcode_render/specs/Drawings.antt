@@ -18,6 +18,7 @@ use Rattle.qrcode_render.specs.Eps.{eps_captioned}
 use Rattle.qrcode_render.specs.EscPos.{ticket_text}
 use Rattle.qrcode_render.specs.Labels.{IsLabel}
 use Rattle.qrcode_render.specs.Svg.{svg_captioned}
+use Rattle.qrcode_render.specs.Zpl.{least_letters}
 use Rattle.qrcode_render.specs.Pdf.{PdfPage, captioned_page, pdf_document}
 use Rattle.qrcode_render.specs.PngPixels.{png_file}
 
@@ -41,7 +42,9 @@ IsPictureAs Eps o p bytes =
     bytes
     ≡ eps_captioned o.module_um (option_copied o.title) (option_copied o.caption) o.colors p
 IsPictureAs EscPos o p bytes = bytes ≡ ticket_text o.feed o.cut p
-IsPictureAs Zpl o p bytes = IsLabel o.compressed o.at (option_copied o.caption) o.copies p bytes
+IsPictureAs Zpl o p bytes =
+    IsLabel o.compressed o.at (option_copied o.caption) (least_letters o.dpi_tenths) o.copies p
+    bytes
 IsPictureAs Pdf o p bytes =
     bytes ≡ pdf_document (option_copied o.title) (options_page o p ∷ [])
 

@@ -16,14 +16,15 @@ pub record IsCompressedField (p : Picture) (at : ℕ × ℕ) (n : ℕ) (field : 
 
 -- The label of these fields, one below the other, the text below them, if it is given, and how many
 -- copies are printed.
-pub record IsCompressedLabel (at : ℕ × ℕ) (caption : Option (List ℕ)) (copies : Option ℕ)
-    (p : Picture) (label : List ℕ) : Type 0 where
+pub record IsCompressedLabel (at : ℕ × ℕ) (caption : Option (List ℕ)) (letters : ℕ)
+    (copies : Option ℕ) (p : Picture) (label : List ℕ) : Type 0 where
   pub fields : List ℕ
   pub each : ArePieces (IsCompressedField p at) (field_count p) fields
-  pub is : label ≡ codes "^XA\n" ++ (fields ++ (caption_field at caption p ++ label_end copies))
+  pub is : label ≡ codes "^XA\n" ++ (fields ++ (caption_field at caption letters p ++ label_end copies))
 
 -- The label, with data that are compressed or not.
-abbrev pub IsLabel : (compressed : Bool) → ℕ × ℕ → (caption : Option (List ℕ)) → Option ℕ →
-    Picture → List ℕ → Type 0
-IsLabel false at caption copies p label = label ≡ label_captioned at caption copies p
-IsLabel true at caption copies p label = IsCompressedLabel at caption copies p label
+abbrev pub IsLabel : (compressed : Bool) → ℕ × ℕ → (caption : Option (List ℕ)) → (letters : ℕ) →
+    Option ℕ → Picture → List ℕ → Type 0
+IsLabel false at caption letters copies p label =
+    label ≡ label_captioned at caption letters copies p
+IsLabel true at caption letters copies p label = IsCompressedLabel at caption letters copies p label

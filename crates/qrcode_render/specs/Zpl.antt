@@ -157,40 +157,50 @@ line_break (suc n) = codes "\\&"
 abbrev pub block_line : ℕ → List ℕ → List ℕ
 block_line n line = line_break n ++ block_data line
 
--- The height of characters, of which a printer draws none with fewer than 10 dots, and the least
--- width.
-abbrev pub text_height : Picture → ℕ
-text_height p = max (3 * p.scale) 10
+-- The least height of characters in dots: 2 mm, where it is known how many dots ten inches have.
+abbrev pub least_letters : (dpi_tenths : Option ℕ) → ℕ
+least_letters None = 0
+least_letters (Some dpi_tenths) = (2 * dpi_tenths + 253) / 254
+
+-- The height of characters, at least this, of which a printer draws none with fewer than 10 dots,
+-- and the least width.
+abbrev pub text_height : (letters : ℕ) → Picture → ℕ
+text_height letters p = max (max (3 * p.scale) 10) letters
 
 abbrev pub least_width : Picture → ℕ
 least_width p = max (2 * p.scale) 10
 
 -- The text below a picture, with sizes in dots.
-abbrev pub zpl_block : Picture → (text : List ℕ) → Block
-zpl_block p text = laid_out (least_width p) (text_height p) (line_width (pixel_width p)) text
+abbrev pub zpl_block : (letters : ℕ) → Picture → (text : List ℕ) → Block
+zpl_block letters p text =
+    laid_out (least_width p) (text_height letters p) (line_width (pixel_width p)) text
 
 -- The command for the font of such a text.
-abbrev pub block_font : Picture → Block → List ℕ
-block_font p b = text_font (text_height p) (max b.size 10)
+abbrev pub block_font : (letters : ℕ) → Picture → Block → List ℕ
+block_font letters p b = text_font (text_height letters p) (max b.size 10)
 
--- One line is a field, and several are a field block, as wide as the picture.
-abbrev pub lines_field : Picture → Block → List ℕ
-lines_field p b =
-    if length b.lines == 1 then block_font p b ++ field_data (get_or b.lines 0 []) else
-    field_block (pixel_width p) ++ (block_font p b ++ each_line block_line b.lines)
+-- One line in a font is a field, and several are a field block, as wide as the picture.
+abbrev pub lines_field : (font : List ℕ) → Picture → Block → List ℕ
+lines_field font p b =
+    if length b.lines == 1 then font ++ field_data (get_or b.lines 0 []) else
+    field_block (pixel_width p) ++ (font ++ each_line block_line b.lines)
 
--- The field of the text below the picture, if it is given.
-abbrev pub caption_field : (at : ℕ × ℕ) → (caption : Option (List ℕ)) → Picture → List ℕ
-caption_field at None p = []
-caption_field at (Some text) p =
-    field_place at.0 (at.1 + pixel_height p) ++ (lines_field p (zpl_block p text) ++ codes "^FS\n")
+-- The field of the text below the picture, if it is given, in characters of at least this height.
+abbrev pub caption_field : (at : ℕ × ℕ) → (caption : Option (List ℕ)) → (letters : ℕ) → Picture →
+    List ℕ
+caption_field at None letters p = []
+caption_field at (Some text) letters p =
+    let b = zpl_block letters p text in
+    field_place at.0 (at.1 + pixel_height p)
+    ++ (lines_field (block_font letters p b) p b ++ codes "^FS\n")
 
 -- The label: all fields, one below the other, the text below them, if it is given, and how many
 -- copies are printed.
-abbrev pub label_captioned : ℕ × ℕ → (caption : Option (List ℕ)) → Option ℕ → Picture → List ℕ
-label_captioned at caption copies p =
+abbrev pub label_captioned : ℕ × ℕ → (caption : Option (List ℕ)) → (letters : ℕ) → Option ℕ →
+    Picture → List ℕ
+label_captioned at caption letters copies p =
     codes "^XA\n" ++ (first_fields p at (field_count p)
-    ++ (caption_field at caption p ++ label_end copies))
+    ++ (caption_field at caption letters p ++ label_end copies))
 
 -- The label: all fields, one below the other, and how many copies are printed.
 abbrev pub label_text : ℕ × ℕ → Option ℕ → Picture → List ℕ

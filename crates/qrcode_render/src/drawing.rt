@@ -1,5 +1,5 @@
 //! Symbols and grids in the format of their options, in one call.
-ghost use Rattle.std.specs.Prelude.{◌≡◌, ◌<◌, ◌^◌, ◌↔◌, [], ◌∷◌, IfOk, IfSome, IsSome};
+ghost use Rattle.std.specs.Prelude.{◌≡◌, ◌≤◌, ◌<◌, ◌^◌, ◌↔◌, [], ◌∷◌, IfOk, IfSome, IsSome};
 ghost use Rattle.std.specs.Option.{option_copied};
 ghost use Rattle.qrcode_core.specs.Symbol.{drawn_grid};
 ghost use Rattle.picture_settings.specs.Formats.{is_text_format};
@@ -10,6 +10,8 @@ ghost use Rattle.qrcode_render.specs.Drawings.{IsPictureOf, IsPictureAs};
 ghost use Rattle.qrcode_render.specs.Drawings.{drawn_bytes, is_drawn_text, options_page};
 ghost use Rattle.qrcode_render.specs.Labels.{IsLabel};
 ghost use Rattle.qrcode_render.specs.Pdf.{pdf_document};
+ghost use Rattle.qrcode_render.specs.Zpl.{least_letters};
+ghost use Rattle.picture_settings.specs.declared.bounds.TheConstants.{MAX_LETTERS};
 
 use crate::caption::{Texts, terminal_captioned};
 use crate::eps::eps_captioned;
@@ -131,13 +133,26 @@ fn texts<'a>(options: &DrawOptions<'a>) -> Texts<'a>
 /// Returns the label of the options.
 fn zpl(alloc: Global, picture: &Picture, options: &DrawOptions) -> Result<Vec<u8>, AllocError>
     ensures { IfOk result (λ bytes. IsLabel options.now.compressed options.now.at
-        (option_copied options.now.caption) options.now.copies (shown picture.now) bytes.items) }
+        (option_copied options.now.caption) (least_letters options.now.dpi_tenths)
+        options.now.copies (shown picture.now) bytes.items) }
 {
-    let caption = options.caption;
+    let (at, caption, letters) = (options.at, options.caption, least_letters(options));
     if options.compressed {
-        compressed_captioned(alloc, picture, options.at, caption, options.copies)
+        compressed_captioned(alloc, picture, at, caption, letters, options.copies)
     } else {
-        label_captioned(alloc, picture, options.at, caption, options.copies)
+        label_captioned(alloc, picture, at, caption, letters, options.copies)
+    }
+}
+
+/// Returns the number of dots that is 2 mm or the next more, or 0 if the options do not say how many
+/// dots ten inches have.
+fn least_letters(options: &DrawOptions) -> usize
+    ensures exact { result ≡ least_letters options.now.dpi_tenths }
+    ensures bound { result ≤ MAX_LETTERS }
+{
+    match options.dpi_tenths {
+        Some(dpi_tenths) => (2 * dpi_tenths + 253) / 254,
+        None => 0,
     }
 }
 

@@ -5,7 +5,7 @@ ghost use Rattle.std.specs.Option.{option_copied};
 ghost use Rattle.grid_pictures.specs.Bitmaps.{rows_from};
 ghost use Rattle.std.specs.String.{string_bytes};
 ghost use Rattle.picture_settings.specs.declared.bounds.TheConstants.{FIELD_BYTES, MAX_AT};
-ghost use Rattle.picture_settings.specs.declared.bounds.TheConstants.{MAX_PIXELS};
+ghost use Rattle.picture_settings.specs.declared.bounds.TheConstants.{MAX_LETTERS, MAX_PIXELS};
 ghost use Rattle.grid_pictures.specs.Pictures.{pixel_height};
 ghost use Rattle.grid_pictures.specs.Picture.{shown};
 ghost use Rattle.qrcode_render.specs.CompressedData.{AddsPiece};
@@ -48,22 +48,25 @@ pub fn label(
     requires { at.1 ≤ MAX_AT }
     ensures { IfOk result (λ bytes. bytes.items ≡ label_text at copies (shown picture.now)) }
 {
-    label_captioned(alloc, picture, at, None, copies)
+    label_captioned(alloc, picture, at, None, 0, copies)
 }
 
 /// Returns the picture as `label` does, with a text below it in the scalable font of the printer
-/// (`^A0`), if it is given. It fails only for lack of memory.
+/// (`^A0`), if it is given, in characters of at least this height in dots. It fails only for lack
+/// of memory.
 #[tactic(auto, using(crate::proofs::BandLemmas::fields))]
 pub fn label_captioned(
     alloc: Global,
     picture: &Picture,
     at: (usize, usize),
     caption: Option<&str>,
+    letters: usize,
     copies: Option<usize>,
 ) -> Result<Vec<u8>, AllocError>
-    requires { at.1 ≤ MAX_AT }
+    requires place { at.1 ≤ MAX_AT }
+    requires small { letters ≤ MAX_LETTERS }
     ensures { IfOk result (λ bytes. bytes.items
-        ≡ label_captioned at (option_copied caption.entry) copies (shown picture.now)) }
+        ≡ label_captioned at (option_copied caption.entry) letters copies (shown picture.now)) }
 {
     let height = picture.height();
     let rows = field_rows(picture);
@@ -82,7 +85,7 @@ pub fn label_captioned(
             (height - first).min(rows),
         )?;
     }
-    push_caption(alloc, &mut bytes, picture, at, caption)?;
+    push_caption(alloc, &mut bytes, picture, at, caption, letters)?;
     push_end(alloc, &mut bytes, copies)?;
     Ok(bytes)
 }
@@ -97,9 +100,9 @@ pub fn compressed_label(
 ) -> Result<Vec<u8>, AllocError>
     requires { at.1 ≤ MAX_AT }
     ensures { IfOk result (λ bytes.
-        IsCompressedLabel at None copies (shown picture.now) bytes.items) }
+        IsCompressedLabel at None 0 copies (shown picture.now) bytes.items) }
 {
-    compressed_captioned(alloc, picture, at, None, copies)
+    compressed_captioned(alloc, picture, at, None, 0, copies)
 }
 
 /// Returns the picture as `label_captioned` does, with compressed data. It fails only for lack
@@ -110,10 +113,12 @@ pub fn compressed_captioned(
     picture: &Picture,
     at: (usize, usize),
     caption: Option<&str>,
+    letters: usize,
     copies: Option<usize>,
 ) -> Result<Vec<u8>, AllocError>
-    requires { at.1 ≤ MAX_AT }
-    ensures { IfOk result (λ bytes. IsCompressedLabel at (option_copied caption.entry) copies
+    requires place { at.1 ≤ MAX_AT }
+    requires small { letters ≤ MAX_LETTERS }
+    ensures { IfOk result (λ bytes. IsCompressedLabel at (option_copied caption.entry) letters copies
         (shown picture.now) bytes.items) }
 {
     let fields = field_count(picture);
@@ -122,7 +127,7 @@ pub fn compressed_captioned(
     for n in 0..fields {
         push_compressed_field(alloc, &mut bytes, picture, at, n)?;
     }
-    push_caption(alloc, &mut bytes, picture, at, caption)?;
+    push_caption(alloc, &mut bytes, picture, at, caption, letters)?;
     push_end(alloc, &mut bytes, copies)?;
     Ok(bytes)
 }

@@ -2,7 +2,7 @@
 ghost use Rattle.std.specs.Prelude.{◌≡◌, ◌*◌, ◌≤◌, ◌++◌, map, IfOk, OnOk};
 ghost use Rattle.std.specs.Option.{option_copied};
 ghost use Rattle.std.specs.String.{string_bytes};
-ghost use Rattle.picture_settings.specs.declared.bounds.TheConstants.{MAX_AT, MAX_SCALE};
+ghost use Rattle.picture_settings.specs.declared.bounds.TheConstants.{MAX_AT, MAX_LETTERS};
 ghost use Rattle.grid_pictures.specs.Picture.{shown};
 ghost use Rattle.qrcode_render.specs.CaptionTypes.{block_of};
 ghost use Rattle.qrcode_render.specs.Captions.{each_line};
@@ -16,57 +16,64 @@ use crate::zpl::hex_digit;
 use grid_pictures::picture::Picture;
 use std::alloc::{AllocError, Global};
 
-/// Appends the field of the text below the picture, if there is one.
+/// Appends the field of the text below the picture, if there is one, in characters of at least this
+/// height in dots.
 pub(crate) fn push_caption(
     alloc: Global,
     bytes: &mut Vec<u8>,
     picture: &Picture,
     at: (usize, usize),
     caption: Option<&str>,
+    letters: usize,
 ) -> Result<(), AllocError>
-    requires { at.1 ≤ MAX_AT }
+    requires place { at.1 ≤ MAX_AT }
+    requires small { letters ≤ MAX_LETTERS }
     ensures { OnOk result (bytes.new.items ≡ bytes.old.items
-        ++ caption_field at (option_copied caption.entry) (shown picture.now)) }
+        ++ caption_field at (option_copied caption.entry) letters (shown picture.now)) }
 {
     let Some(text) = caption else {
         return Ok(());
     };
     let least = (2 * picture.scale()).max(10);
+    let height = text_height(picture, letters);
     let room = line_width(picture.width());
-    let block = laid_out(alloc, text, least, text_height(picture), room)?;
+    let block = laid_out(alloc, text, least, height, room)?;
     let place = field_place(alloc, at.0, at.1 + picture.height())?;
     bytes.extend_from_slice(place.as_bytes())?;
-    push_lines(alloc, bytes, picture, &block)?;
+    let font = text_font(alloc, height, block.size().max(10))?;
+    push_lines(alloc, bytes, picture, font.as_bytes(), &block)?;
     bytes.extend_from_slice(b"^FS\n")
 }
 
-/// Returns the height of the characters of the text below the picture.
-fn text_height(picture: &Picture) -> usize
-    ensures exact { result ≡ text_height (shown picture.now) }
-    ensures bound { result ≤ 3 * MAX_SCALE }
+/// Returns the height of the characters of the text below the picture, which is at least this.
+fn text_height(picture: &Picture, letters: usize) -> usize
+    requires { letters ≤ MAX_LETTERS }
+    ensures exact { result ≡ text_height letters (shown picture.now) }
+    ensures bound { result ≤ MAX_LETTERS }
 {
-    (3 * picture.scale()).max(10)
+    (3 * picture.scale()).max(10).max(letters)
 }
 
-/// Appends the lines of the text below the picture: one as a field, and several as a field block.
+/// Appends the lines of the text below the picture in a font: one as a field, and several as a field
+/// block.
 fn push_lines(
     alloc: Global,
     bytes: &mut Vec<u8>,
     picture: &Picture,
+    font: &[u8],
     block: &Caption,
 ) -> Result<(), AllocError>
     ensures { OnOk result (bytes.new.items ≡ bytes.old.items
-        ++ lines_field (shown picture.now) (block_of block.now)) }
+        ++ lines_field font.now (shown picture.now) (block_of block.now)) }
 {
     let lines = block.lines();
-    let font = text_font(alloc, text_height(picture), block.size().max(10))?;
     if lines.len() == 1 {
-        bytes.extend_from_slice(font.as_bytes())?;
+        bytes.extend_from_slice(font)?;
         return push_text(bytes, lines[0].as_bytes());
     }
     let command = field_block(alloc, picture.width())?;
     bytes.extend_from_slice(command.as_bytes())?;
-    bytes.extend_from_slice(font.as_bytes())?;
+    bytes.extend_from_slice(font)?;
     push_block_lines(bytes, lines)
 }
 

@@ -135,6 +135,26 @@ fn writes_below_zpl(rt: HostRuntime) {
     assert!(rt; label.ends_with(end));
 }
 
+/// Where the resolution is known, 2 mm are 16 dots of 8 a millimetre, and 24 of 300 an inch.
+#[test]
+fn writes_two_millimetres_below_zpl(rt: HostRuntime) {
+    let alloc = rt.alloc();
+    let settings = Settings {
+        scale: Some(2),
+        dpi_tenths: Some(2032),
+        ..below("(10)ABCDE")
+    };
+    let label = drawn(alloc, Format::Zpl, &settings).expect(&rt, "a label");
+    assert!(rt; label.ends_with(b"^FS\n^FO0,58^A0N,16,10^FH^FD(10)ABCDE^FS\n^XZ\n"));
+    let settings = Settings {
+        dpi_tenths: Some(3000),
+        compressed: true,
+        ..settings
+    };
+    let label = drawn(alloc, Format::Zpl, &settings).expect(&rt, "a label");
+    assert!(rt; label.ends_with(b"^FS\n^FO0,58^A0N,24,10^FH^FD(10)ABCDE^FS\n^XZ\n"));
+}
+
 /// The symbol is as without the text.
 #[test]
 fn writes_below_text(rt: HostRuntime) {

@@ -183,7 +183,8 @@ fn rejects_options_of_other_formats(rt: HostRuntime) {
     assert!(rt; takes_just(alloc, &Png, &png).expect(&rt, "a result"));
     assert!(rt; takes_just(alloc, &Pbm, &[]).expect(&rt, "a result"));
     assert!(rt; takes_just(alloc, &EscPos, &["feed", "cut"]).expect(&rt, "a result"));
-    assert!(rt; takes_just(alloc, &Zpl, &["at", "copies", "compressed"]).expect(&rt, "a result"));
+    let zpl = ["dpi", "at", "copies", "compressed"];
+    assert!(rt; takes_just(alloc, &Zpl, &zpl).expect(&rt, "a result"));
     assert!(rt; takes_just(alloc, &Terminal, &["inverted"]).expect(&rt, "a result"));
 }
 

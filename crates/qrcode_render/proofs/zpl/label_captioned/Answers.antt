@@ -11,7 +11,7 @@ pub returns : goal.returns
 returns c =
     let p = shown c.args.picture.now in
     let end : c.loop-n.n ≡ field_count p = omega (arith, c.field_count-fields.ensures) in
-    let caption = caption_field c.args.at (option_copied c.args.caption) p in
+    let caption = caption_field c.args.at (option_copied c.args.caption) c.args.letters p in
     let fields = c.loop-n.invariant ∙ ap (λ n. codes "^XA\n" ++ first_fields p c.args.at n) end in
     c.in_ok-push_end.ensures
     ∙ ap (λ l. l ++ label_end c.args.copies) (c.in_ok-push_caption.ensures ∙ ap (λ l. l ++ caption) fields)
