@@ -1,0 +1,90 @@
+//! The rows of pixels of lines of text, as bits: dark is 1.
+ghost use Rattle.std.specs.Prelude.{◌≡◌, ◌+◌, ◌*◌, ◌/◌, ◌<◌, ◌++◌, length, OnOk};
+ghost use Rattle.grid_pictures.specs.Texts.{font_rows, is_dark_letter, is_dark_text};
+ghost use Rattle.grid_pictures.specs.Texts.{repeated, text_byte, text_bytes, text_of, text_row};
+
+use crate::bitmap::zeros;
+use crate::lettering::Lettering;
+use crate::letters::LETTERS;
+use std::alloc::{AllocError, Global};
+
+/// Appends all rows of pixels of lines of text. It fails only for lack of memory.
+pub fn push_text(alloc: Global, bytes: &mut Vec<u8>, text: &Lettering) -> Result<(), AllocError>
+    ensures { OnOk result (bytes.new.items ≡ bytes.old.items ++ text_bytes (text_of text.now)
+        (font_rows (text_of text.now))) }
+{
+    let mut line = zeros(alloc, text.width.div_ceil(8))?;
+    for row in 0..10 * text.lines.len() {
+        write_text_row(text, row, line.as_mut_slice());
+        push_times(bytes, &line, text.size)?;
+    }
+    Ok(())
+}
+
+/// Appends bytes several times.
+fn push_times(bytes: &mut Vec<u8>, line: &[u8], count: usize) -> Result<(), AllocError>
+    ensures { OnOk result (bytes.new.items ≡ bytes.old.items ++ repeated count line.now) }
+{
+    for copy in 0..count {
+        bytes.extend_from_slice(line)?;
+    }
+    Ok(())
+}
+
+/// Writes the bytes of a row of the font's pixels.
+fn write_text_row(text: &Lettering, row: usize, line: &mut [u8])
+    requires inside { row < font_rows (text_of text.now) }
+    requires long { length line.old ≡ (text.now.width + 7) / 8 }
+    ensures { line.new ≡ text_row (text_of text.now) row }
+{
+    for place in 0..line.len() {
+        line[place] = text_byte(text, row, place);
+    }
+}
+
+/// Returns eight pixels of a row of the font's pixels.
+fn text_byte(text: &Lettering, row: usize, place: usize) -> u8
+    requires inside { row < font_rows (text_of text.now) }
+    requires within { place < (text.now.width + 7) / 8 }
+    ensures { result ≡ text_byte (text_of text.now) row place }
+{
+    let mut byte = 0;
+    for i in 0..8 {
+        byte = 2 * byte + u8::from(is_dark_text(text, 8 * place + i, row));
+    }
+    byte
+}
+
+/// Whether the pixel in this column is dark, in a row of the font's pixels.
+fn is_dark_text(text: &Lettering, x: usize, row: usize) -> bool
+    requires { row < font_rows (text_of text.now) }
+    ensures { result ≡ is_dark_text (text_of text.now) x row }
+{
+    let line = text.lines[row / 10].as_bytes();
+    let width = line.len() as u128 * (5 * text.size) as u128;
+    let start = ((text.width as u128).saturating_sub(width) / 2) as usize;
+    if x < start {
+        return false;
+    }
+    let column = (x - start) / text.size;
+    match line.get(column / 5) {
+        Some(letter) => is_dark_letter(*letter, column % 5, row % 10),
+        None => false,
+    }
+}
+
+/// Whether a pixel of a letter is dark, by its column and its row in a line, which has a row more
+/// above and below the letters.
+fn is_dark_letter(letter: u8, column: usize, row: usize) -> bool
+    requires { column < 5 }
+    ensures { result ≡ is_dark_letter letter column row }
+{
+    let place = match letter {
+        b' '..=b'~' => letter - b' ',
+        _ => b'?' - b' ',
+    };
+    if row < 1 || row > 8 {
+        return false;
+    }
+    LETTERS[usize::from(place)][row - 1] / (16 >> column) % 2 == 1
+}
