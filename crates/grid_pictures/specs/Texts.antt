@@ -1,5 +1,5 @@
 -- Lines of text as pixels, in letters of a font of 5 by 8 pixels.
-use Rattle.std.specs.Prelude.{ℕ, ◌+◌, ◌-◌, ◌*◌, ◌/◌, ◌%◌, ◌^◌, Bool, ◌==◌, ◌&&◌, nat_le, nat_lt}
+use Rattle.std.specs.Prelude.{ℕ, ◌+◌, ◌-◌, ◌*◌, ◌/◌, ◌%◌, ◌^◌, Bool, ◌==◌, ◌&&◌, ◌||◌, nat_le, nat_lt}
 use Rattle.std.specs.Prelude.{List, [], length, map, flat_map, replicate, get_or, if◌then◌else◌}
 use Rattle.std.specs.List.{range_with_len}
 use Rattle.std.specs.String.{string_bytes}
@@ -12,7 +12,7 @@ use Rattle.grid_pictures.specs.declared.letters.TheConstants.{LETTERS}
 -- The rows of a letter, from the top, by the table of the font. What is not a character of ASCII
 -- that is printed is drawn as `?`.
 abbrev pub letter_rows : ℕ → List ℕ
-letter_rows c = get_or LETTERS (if nat_le 32 c && nat_lt c 127 then c - 32 else 31) []
+letter_rows c = get_or LETTERS (if nat_lt c 32 || nat_lt 126 c then 31 else c - 32) []
 
 -- Whether a pixel of a letter is dark, by its column and its row in a line. A line has ten rows: the
 -- eight of its letters, and a light one above and below them.
