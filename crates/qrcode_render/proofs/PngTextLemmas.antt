@@ -1,10 +1,12 @@
 -- The rows of a text below a picture, inverted, have its pixels.
-use Rattle.std.proofs.Common.{◌≡◌, ℕ, zero, suc, ◌+◌, ◌*◌, ◌/◌, ◌≤◌, ◌++◌, List, [], ◌∷◌, map, length, take, drop, replicate, refl}
+use Rattle.std.proofs.Common.{◌≡◌, ℕ, zero, suc, ◌+◌, ◌-◌, ◌*◌, ◌/◌, ◌≤◌, ◌++◌, List, [], ◌∷◌, map, length, take, drop, replicate, refl}
 use Rattle.std.proofs.Common.{sym, ◌∙◌, ap, arith}
 use Rattle.std.specs.Prelude.{flat_map, Option, option_map, chars}
 use Rattle.std.specs.Option.{option_copied}
 use Rattle.std.specs.List.{range_with_len}
 use Rattle.std.proofs.lemmas.List.{drop-append-le, length-append, length-drop, length-map, map-append, nil_from_length, take-append-le}
+use Rattle.std.proofs.Math.Nat.{div-mul-le_self}
+use Rattle.std.proofs.lemmas.Nat.{mul-le}
 use Rattle.std.proofs.Math.Seq.{drop-append_seam, take-append_seam}
 use Rattle.png.specs.Png.{pixels_in}
 use Rattle.png.specs.Pictures.{colours_of, split_rows, repeated_rows, picture_of}
@@ -164,3 +166,13 @@ captioned_pixels image p t per_metre title colors wide same high once_each dense
       palette = palette colors;
       title = option_map chars title;
     }) found)
+
+-- rows of lines that are few enough
+pub rows_fit : (lines most above size : ℕ) → above ≤ most → lines ≤ (most - above) / size → above + lines * size ≤ most
+rows_fit lines most above size fits few =
+    let all : lines * size ≤ (most - above) / size * size = mul-le lines size ((most - above) / size) size few (omega arith) in
+    omega (arith, fits, all, div-mul-le_self (most - above) size)
+
+-- their height
+pub text_rows : (lines size : ℕ) → (10 * lines) * size ≡ lines * (10 * size)
+text_rows lines size = grind arith

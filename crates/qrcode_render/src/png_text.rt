@@ -1,7 +1,6 @@
 //! Pictures as PNG files with a text below them, in letters of a font of pixels.
-ghost use Rattle.std.specs.Prelude.{◌≡◌, ◌≤◌, ◌<◌, ◌^◌, ◌++◌, length, map, IfOk, IfSome, Some};
+ghost use Rattle.std.specs.Prelude.{◌≡◌, ◌≤◌, ◌<◌, ◌^◌, IfOk, IfSome, Some};
 ghost use Rattle.std.specs.Option.{option_copied};
-ghost use Rattle.std.specs.String.{string_bytes};
 ghost use Rattle.picture_settings.specs.declared.bounds.TheConstants.{MAX_PIXELS};
 ghost use Rattle.png.specs.Png.{read_png};
 ghost use Rattle.grid_pictures.specs.Picture.{shown};
@@ -21,9 +20,9 @@ use png::Image;
 use std::alloc::{AllocError, Global};
 
 /// Returns the picture as `png_file` does, with a text below it, if it is given, in letters of 5 by
-/// 8 pixels, each enlarged so that they are at least 2 mm high, or 2 modules where the file doesn't
-/// say how many pixels are in a metre. It fails for lack of memory, and where the picture would have
-/// more rows than PNG has numbers for.
+/// 8 pixels. These are enlarged by the least whole number at which letters are 2 mm high, or 2
+/// modules where the number of pixels in a metre is not given; by less where one has no room. It
+/// fails for lack of memory, and where the file would have more than `MAX_IMAGE_ROWS` rows.
 pub fn png_captioned(
     alloc: Global,
     picture: &Picture,
