@@ -9,3 +9,4 @@ pub mod RunEnds
 pub mod RowRuns
 pub mod TextLemmas
 pub mod CoverLemmas
+pub mod LetteringLemmas

@@ -8,3 +8,4 @@ pub mod Pens
 pub mod Numbers
 pub mod Runs
 pub mod PathLaws
+pub mod Texts

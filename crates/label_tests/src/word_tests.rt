@@ -158,7 +158,7 @@ static WRONG_WORDS: [Wrong; 37] = [
     ),
 ];
 
-const HRI: &str = "with -c gs1, gs1-unchecked or link, for terminal, svg, eps, zpl and pdf";
+const HRI: &str = "with -c gs1, gs1-unchecked or link, for terminal, svg, png, eps, zpl and pdf";
 
 const NO_KANJI: &str = "with -c bytes";
 
@@ -266,7 +266,7 @@ static WRONG_VALUES: [Wrong; 55] = [
     ),
     (&["--hri", "hello"], "invalid --hri: ", HRI),
     (
-        &["--hri", "-c", "gs1", "-f", "png", "(10)A"],
+        &["--hri", "-c", "gs1", "-f", "escpos", "(10)A"],
         "invalid --hri: ",
         HRI,
     ),

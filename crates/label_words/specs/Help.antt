@@ -62,7 +62,7 @@ help_lines =
     ∷ codes "      --light COLOR     the same, or transparent; default: black on white"
     ∷ codes "      --any-colors      take colors that readers may not tell apart"
     ∷ codes "      --hri             write the elements below it, as (01)09506000134352(10)ABC (svg,"
-    ∷ codes "                        eps, zpl, pdf, terminal; with -c gs1, gs1-unchecked, link)"
+    ∷ codes "                        png, eps, zpl, pdf, terminal; with -c gs1, gs1-unchecked, link)"
     ∷ codes "      --at X,Y          position on the label in dots, 0 to 18000 (zpl)"
     ∷ codes "      --copies N        how often the printer prints it, 1 to 99999999 (zpl)"
     ∷ codes "      --compressed      write it in compressed fields (zpl)"

@@ -62,7 +62,7 @@ Picture:
       --light COLOR     the same, or transparent; default: black on white
       --any-colors      take colors that readers may not tell apart
       --hri             write the elements below it, as (01)09506000134352(10)ABC (svg,
-                        eps, zpl, pdf, terminal; with -c gs1, gs1-unchecked, link)
+                        png, eps, zpl, pdf, terminal; with -c gs1, gs1-unchecked, link)
       --at X,Y          position on the label in dots, 0 to 18000 (zpl)
       --copies N        how often the printer prints it, 1 to 99999999 (zpl)
       --compressed      write it in compressed fields (zpl)

@@ -210,7 +210,7 @@ fn values_text(name: Name) -> &'static str
         Name::Dark => DARK,
         Name::Light => LIGHT,
         Name::AnyColors => "for svg, png, eps and pdf",
-        Name::Hri => "with -c gs1, gs1-unchecked or link, for terminal, svg, eps, zpl and pdf",
+        Name::Hri => "with -c gs1, gs1-unchecked or link, for terminal, svg, png, eps, zpl and pdf",
         Name::NoKanji => "with -c bytes",
         Name::Upper => "with -c link",
         Name::Text | Name::AllowEmpty | Name::KeepNewline => "",

@@ -51,7 +51,6 @@ has_title _ = false
 
 -- The picture has a text below it.
 abbrev pub has_caption : Format → Bool
-has_caption Png = false
 has_caption Pbm = false
 has_caption EscPos = false
 has_caption _ = true

@@ -28,6 +28,9 @@ pub const MAX_HIGH: usize = MAX_COLUMNS + (MAX_LINES + 1) * (MAX_LETTERS / 100);
 /// The greatest width and height of a picture in pixels.
 pub const MAX_PIXELS: usize = MAX_COLUMNS * MAX_SCALE;
 
+/// The greatest number of rows of pixels of a PNG file (ISO/IEC 15948).
+pub const MAX_IMAGE_ROWS: usize = (1 << 31) - 1;
+
 /// The greatest number of bytes of a row of pixels.
 pub const MAX_ROW: usize = MAX_PIXELS / 8;
 

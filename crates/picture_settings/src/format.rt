@@ -73,7 +73,7 @@ impl Format {
     pub fn has_caption(self) -> bool
         ensures { result ≡ has_caption self }
     {
-        !matches!(self, Format::Png | Format::Pbm | Format::EscPos)
+        !matches!(self, Format::Pbm | Format::EscPos)
     }
 
     /// Whether the picture can have colours.

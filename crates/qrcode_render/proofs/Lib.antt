@@ -7,3 +7,4 @@ pub mod PdfLemmas
 pub mod PdfTableLemmas
 pub mod ReadingLemmas
 pub mod FieldLemmas
+pub mod PngTextLemmas

@@ -20,7 +20,7 @@ use Rattle.qrcode_render.specs.Labels.{IsLabel}
 use Rattle.qrcode_render.specs.Svg.{svg_captioned}
 use Rattle.qrcode_render.specs.Zpl.{least_letters}
 use Rattle.qrcode_render.specs.Pdf.{PdfPage, captioned_page, pdf_document}
-use Rattle.qrcode_render.specs.PngPixels.{png_file}
+use Rattle.qrcode_render.specs.PngPixels.{png_captioned}
 
 -- The page of a picture in a document, with what the options say beside its scale and quiet zone.
 abbrev pub options_page : DrawOptions → Picture → PdfPage
@@ -36,7 +36,8 @@ IsPictureAs Svg o p bytes =
     ≡ svg_captioned o.module_um (option_copied o.title) (option_copied o.caption) o.colors p
 IsPictureAs Png o p bytes =
     read_png bytes
-    ≡ Some (png_file (per_metre o.scale o.module_um o.dpi_tenths) (option_copied o.title) o.colors p)
+    ≡ Some (png_captioned (per_metre o.scale o.module_um o.dpi_tenths) (option_copied o.title)
+    (option_copied o.caption) o.colors p)
 IsPictureAs Pbm o p bytes = bytes ≡ bitmap_of p
 IsPictureAs Eps o p bytes =
     bytes

@@ -18,7 +18,7 @@ use crate::eps::eps_captioned;
 use crate::escpos::ticket;
 use crate::pbm::pbm;
 use crate::pdf::pdf_captioned;
-use crate::png_file::png_file;
+use crate::png_text::png_captioned;
 use crate::svg::svg_captioned;
 use crate::zpl::{compressed_captioned, label_captioned};
 use grid_pictures::picture::Picture;
@@ -100,8 +100,8 @@ pub(crate) fn draw_as(
             Ok(Drawn::Text(text))
         }
         Format::Png => {
-            let per_metre = pixels_per_metre(options);
-            let bytes = png_file(alloc, picture, per_metre, options.title, options.colors)?;
+            let (per_metre, texts) = (pixels_per_metre(options), texts(options));
+            let bytes = png_captioned(alloc, picture, per_metre, texts, options.colors)?;
             Ok(Drawn::Bytes(bytes))
         }
         Format::Pbm => Ok(Drawn::Bytes(pbm(alloc, picture)?)),

@@ -31,6 +31,7 @@ mod pdf_page;
 pub mod pdf_pages;
 mod pdf_text;
 pub mod png_file;
+pub mod png_text;
 pub mod renderers;
 pub mod svg;
 pub mod zpl;

@@ -173,7 +173,7 @@ fn writes_below_text(rt: HostRuntime) {
 #[test]
 fn tests_texts_below(rt: HostRuntime) {
     let alloc = rt.alloc();
-    for format in [Format::Png, Format::Pbm, Format::EscPos] {
+    for format in [Format::Pbm, Format::EscPos] {
         assert!(rt; rejects(alloc, format, &below("a"), Setting::Caption));
     }
     for text in ["", "\n\n", "a\t", "a\r\n", "\u{E9}", "a\u{7F}"] {

@@ -15,6 +15,8 @@ mod config_tests;
 #[cfg(test)]
 mod format_tests;
 #[cfg(test)]
+mod letter_tests;
+#[cfg(test)]
 mod pdf_tests;
 #[cfg(test)]
 mod png_tests;
