@@ -1,14 +1,14 @@
 -- The rows of a text below a picture, inverted, have its pixels.
 use Rattle.std.proofs.Common.{◌≡◌, ℕ, zero, suc, ◌+◌, ◌-◌, ◌*◌, ◌/◌, ◌≤◌, ◌++◌, List, [], ◌∷◌, map, length, take, drop, replicate, refl}
 use Rattle.std.proofs.Common.{sym, ◌∙◌, ap, arith}
-use Rattle.std.specs.Prelude.{flat_map, Option, option_map, chars}
+use Rattle.std.specs.Prelude.{flat_map, max, Option, option_map, chars}
 use Rattle.std.specs.Option.{option_copied}
 use Rattle.std.specs.List.{range_with_len}
 use Rattle.std.proofs.lemmas.List.{drop-append-le, length-append, length-drop, length-map, map-append, nil_from_length, take-append-le}
 use Rattle.std.proofs.Math.Nat.{div-mul-le_self}
 use Rattle.std.proofs.lemmas.Nat.{mul-le}
 use Rattle.std.proofs.Math.Seq.{drop-append_seam, take-append_seam}
-use Rattle.png.specs.Png.{pixels_in}
+use Rattle.png.specs.Png.{pixels_in, stride_of}
 use Rattle.png.specs.Pictures.{colours_of, split_rows, repeated_rows, picture_of}
 use Rattle.png.specs.declared.image.Image.{Image}
 use Rattle.picture_settings.specs.declared.colors.Colors.{Colors}
@@ -16,7 +16,8 @@ use Rattle.grid_pictures.specs.Bitmaps.{first_rows, row_length}
 use Rattle.grid_pictures.specs.Pictures.{Picture, pixel_height, pixel_width}
 use Rattle.grid_pictures.specs.Texts.{Text, font_rows, is_dark_text, repeated, text_byte, text_bytes, text_height, text_row}
 use Rattle.grid_pictures.proofs.LetteringLemmas.{row_bytes}
-use Rattle.qrcode_render.specs.PngPixels.{captioned_bytes, palette, png_above, white_letter, white_pixels, white_text}
+use Rattle.qrcode_render.specs.Captions.{caption_lines}
+use Rattle.qrcode_render.specs.PngPixels.{captioned_bytes, letter_size, palette, png_above, text_below, white_letter, white_pixels, white_text}
 use Rattle.qrcode_render.proofs.PixelLemmas.{inverse, picture_bytes, picture_found, test_pixels}
 
 -- the pixels of a row of a text
@@ -174,5 +175,33 @@ rows_fit lines most above size fits few =
     omega (arith, fits, all, div-mul-le_self (most - above) size)
 
 -- their height
-pub text_rows : (lines size : ℕ) → (10 * lines) * size ≡ lines * (10 * size)
+text_rows : (lines size : ℕ) → (10 * lines) * size ≡ lines * (10 * size)
 text_rows lines size = grind arith
+
+-- the bytes of the image
+pub captioned_whole : (p : Picture) (t : Text) (rows : List ℕ) (width high count : ℕ) → rows ≡ captioned_bytes p t → t.width ≡ pixel_width p → width ≡ pixel_width p →
+    high ≡ pixel_height p → count ≡ length t.lines → length rows ≡ (high + count * (10 * t.size)) * stride_of width
+captioned_whole p t rows width high count are same wide above some =
+    ap length are
+    ∙ (captioned_length p t same
+    ∙ (ap (λ k. (pixel_height p + k) * row_length p) (text_rows (length t.lines) t.size)
+    ∙ (ap (λ n. (pixel_height p + n * (10 * t.size)) * row_length p) (sym some)
+    ∙ (ap (λ h. (h + count * (10 * t.size)) * row_length p) (sym above) ∙ ap (λ w. (high + count * (10 * t.size)) * stride_of w) (sym wide)))))
+
+pub captioned_high : (p : Picture) (t : Text) (high count : ℕ) → high ≡ pixel_height p → count ≡ length t.lines →
+    high + count * (10 * t.size) ≡ pixel_height p + text_height t
+captioned_high p t high count above some =
+    ap (λ h. h + count * (10 * t.size)) above
+    ∙ ap (λ k. pixel_height p + k) (ap (λ n. n * (10 * t.size)) some ∙ sym (text_rows (length t.lines) t.size))
+
+-- the text, by its parts
+abbrev pub text_by : (lines : List (List ℕ)) → (width size : ℕ) → Text
+text_by lines width size = record { lines = lines; width = width; size = size }
+
+pub text_is : (per_metre : Option ℕ) (p : Picture) (caption : List ℕ) (lines : List (List ℕ)) (width size room : ℕ) → lines ≡ caption_lines room caption →
+    room ≡ max (width / (5 * size)) 1 → width ≡ pixel_width p → size ≡ letter_size per_metre p → text_by lines width size ≡ text_below per_metre p caption
+text_is per_metre p caption lines width size room are fits wide large =
+    let most : room ≡ max (pixel_width p / (5 * letter_size per_metre p)) 1 =
+    fits ∙ (ap (λ w. max (w / (5 * size)) 1) wide ∙ ap (λ s. max (pixel_width p / (5 * s)) 1) large) in
+    ap (λ l. text_by l width size) (are ∙ ap (λ r. caption_lines r caption) most)
+    ∙ (ap (λ w. text_by (text_below per_metre p caption).lines w size) wide ∙ ap (λ s. text_by (text_below per_metre p caption).lines (pixel_width p) s) large)
