@@ -1,6 +1,7 @@
 -- Lines of text as pixels, in letters of a font of 5 by 8 pixels.
-use Rattle.std.specs.Prelude.{ℕ, ◌+◌, ◌-◌, ◌*◌, ◌/◌, ◌%◌, ◌^◌, Bool, ◌==◌, ◌&&◌, ◌||◌, nat_le, nat_lt}
-use Rattle.std.specs.Prelude.{List, [], length, map, flat_map, replicate, get_or, if◌then◌else◌}
+use Rattle.std.specs.Prelude.{ℕ, ◌+◌, ◌-◌, ◌*◌, ◌/◌, ◌%◌, ◌^◌, Bool, ◌==◌, ◌&&◌, ◌||◌, nat_le}
+use Rattle.std.specs.Prelude.{List, [], length, map, flat_map, replicate, get_or, nat_lt}
+use Rattle.std.specs.Prelude.{if◌then◌else◌}
 use Rattle.std.specs.List.{range_with_len}
 use Rattle.std.specs.String.{string_bytes}
 use Rattle.grid_pictures.specs.Bitmaps.{bits_number}
@@ -14,8 +15,8 @@ use Rattle.grid_pictures.specs.declared.letters.TheConstants.{LETTERS}
 abbrev pub letter_rows : ℕ → List ℕ
 letter_rows c = get_or LETTERS (if nat_lt c 32 || nat_lt 126 c then 31 else c - 32) []
 
--- Whether a pixel of a letter is dark, by its column and its row in a line. A line has ten rows: the
--- eight of its letters, and a light one above and below them.
+-- Whether a pixel of a letter is dark, by its column and its row in a line. A line has ten rows:
+-- the eight of its letters, and a light one above and below them.
 unfoldable pub is_dark_letter : (c column row : ℕ) → Bool
 is_dark_letter c column row =
     nat_le 1 row && (nat_le row 8

@@ -1,7 +1,7 @@
 //! The rows of pixels of lines of text, as bits: dark is 1.
 ghost use Rattle.std.specs.Prelude.{◌≡◌, ◌+◌, ◌*◌, ◌/◌, ◌<◌, ◌++◌, length, OnOk};
-ghost use Rattle.grid_pictures.specs.Texts.{font_rows, is_dark_in_line, is_dark_letter, is_dark_text};
-ghost use Rattle.grid_pictures.specs.Texts.{letter_rows, line_start};
+ghost use Rattle.grid_pictures.specs.Texts.{font_rows, is_dark_in_line, is_dark_letter};
+ghost use Rattle.grid_pictures.specs.Texts.{is_dark_text, letter_rows, line_start};
 ghost use Rattle.grid_pictures.specs.Texts.{repeated, text_byte, text_bytes, text_of, text_row};
 
 use crate::bitmap::zeros;

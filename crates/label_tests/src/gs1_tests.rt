@@ -356,6 +356,15 @@ fn writes_elements_below_pages(rt: HostRuntime) {
     assert!(rt; has(&label.label, b"/BaseFont/Courier"));
 }
 
+/// 264 pixels, of which 26 letters of 10 are in a line, and three lines of 20 pixels.
+#[test]
+fn writes_elements_below_png(rt: HostRuntime) {
+    let words = ["-f", "png", "-c", "gs1", "--hri"];
+    let label = ran(rt.alloc(), &words, b"(01)09506000134352(10)ABC(17)261231");
+    assert!(rt; label.status == 0);
+    assert!(rt; label.label.get(16..24) == Some([0, 0, 1, 8, 0, 0, 1, 68].as_slice()));
+}
+
 #[test]
 fn writes_elements_below_the_symbol(rt: HostRuntime) {
     for (content, input, line) in HRI.iter() {

@@ -1,15 +1,13 @@
 -- The bytes of a text in a field of ZPL II.
-use Rattle.std.proofs.Common.{◌≡◌, ℕ, zero, suc, ◌+◌, ◌-◌, ◌*◌, ◌/◌, ◌%◌, ◌<◌, ◌≤◌, Bool, true, false, List, [], ◌∷◌, ◌++◌, length}
+use Rattle.std.proofs.Common.{◌≡◌, ℕ, zero, suc, ◌+◌, ◌*◌, ◌/◌, ◌%◌, ◌<◌, ◌≤◌, Bool, true, false, List, [], ◌∷◌, ◌++◌, length}
 use Rattle.std.proofs.Common.{length-append, refl, arith, ◌∙◌, ap, append-nil, take, get_or}
-use Rattle.std.specs.Prelude.{flat_map, Some, option_map, ◌==◌, ◌&&◌, ◌||◌, nat_lt, nat_le, if◌then◌else◌}
+use Rattle.std.specs.Prelude.{flat_map, Some, option_map, ◌==◌, ◌&&◌, ◌||◌, nat_lt, if◌then◌else◌}
 use Rattle.std.specs.List.{list_all}
-use Rattle.std.proofs.lemmas.Bool.{le-leb, cases_lt}
 use Rattle.std.proofs.lemmas.Bool.Decides.{nat_tests}
 use Rattle.std.proofs.lemmas.Grind.{common_steps}
-use Rattle.std.proofs.Common.{inl, inr}
 use Rattle.std.proofs.lemmas.Grind.{flat_map-append}
 use Rattle.std.proofs.lemmas.List.{take_more}
-use Rattle.qrcode_render.specs.Zpl.{block_byte, block_data, field_byte, field_data, hex_digit, hex_pair, field_hex_value, joined_digits, read_digits, read_field_byte}
+use Rattle.qrcode_render.specs.Zpl.{block_byte, block_data, field_byte, field_data, hex_digit, hex_pair, field_hex_value, read_digits, read_field_byte}
 use Rattle.qrcode_render.specs.Zpl.{read_field_bytes, FieldsAreRead}
 
 pub data_none : field_data [] ≡ []

@@ -1,6 +1,6 @@
 -- The text below a picture: its lines, their room, and the size of the characters.
 use Rattle.std.specs.Prelude.{ℕ, ◌+◌, ◌-◌, ◌*◌, ◌/◌, ◌%◌, min, max, Option, None, Some, option_map}
-use Rattle.std.specs.Prelude.{List, [], ◌∷◌, ◌++◌, length, map, flat_map, fold, get_or, codes}
+use Rattle.std.specs.Prelude.{List, [], ◌∷◌, ◌++◌, length, flat_map, fold, get_or, codes}
 use Rattle.std.specs.Prelude.{decimal, chars, encode_utf8}
 use Rattle.std.specs.Prelude.{Bool, ◌==◌, ◌&&◌, ◌||◌, not, nat_le, if◌then◌else◌}
 use Rattle.std.specs.List.{range_with_len}

@@ -1,6 +1,6 @@
 -- A picture as SVG (Scalable Vector Graphics 1.1): a light background, and on it one path with a
 -- line for each run of dark modules in a row.
-use Rattle.std.specs.Prelude.{ℕ, ◌+◌, ◌*◌, ◌/◌, ◌%◌, ◌==◌, if◌then◌else◌, Option, None, Some}
+use Rattle.std.specs.Prelude.{ℕ, ◌*◌, ◌/◌, ◌%◌, ◌==◌, if◌then◌else◌, Option, None, Some}
 use Rattle.std.specs.Prelude.{List, [], ◌++◌, codes, decimal}
 use Rattle.picture_settings.specs.Colors.{no_colors}
 use Rattle.picture_settings.specs.Xml.{xml_text}

@@ -1,5 +1,5 @@
 -- One pixel more, and all of them.
-use Rattle.std.proofs.Common.{◌≡◌, ℕ, Bool, ◌*◌, ◌+◌, ◌<◌, ◌∙◌, ap, sym, arith}
+use Rattle.std.proofs.Common.{◌≡◌, ℕ, Bool, ◌*◌, ◌∙◌, ap, arith}
 use Rattle.grid_pictures.specs.Texts.{is_dark_text, text_byte, text_of}
 use Rattle.grid_pictures.proofs.BitmapLemmas.{spelled}
 use Rattle.grid_pictures.proofs.LetteringLemmas.{bit_small, pixel_more, spelled_room}

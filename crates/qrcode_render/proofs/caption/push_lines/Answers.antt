@@ -1,10 +1,10 @@
 -- One line more, and all of them.
-use Rattle.std.proofs.Common.{◌≡◌, ◌++◌, ◌∙◌, [], ◌∷◌, ap, sym, map, length, get_or, append_assoc, arith}
+use Rattle.std.proofs.Common.{map, append_assoc, arith}
 use Rattle.std.specs.String.{string_bytes}
 use Rattle.std.proofs.lemmas.Grind.{common_steps}
 use Rattle.picture_settings.proofs.Ranges.{joined}
 use Rattle.qrcode_render.specs.Captions.{first_lines, terminal_caption_line}
-use Rattle.qrcode_render.proofs.LineLemmas.{line_is, lines_all, lines_one, lines_start}
+use Rattle.qrcode_render.proofs.LineLemmas.{line_is, lines_one, lines_start}
 use Rattle.qrcode_render.proofs.caption.push_lines.Goals as goal
 
 pub loop-n-init : goal.loop-n-init

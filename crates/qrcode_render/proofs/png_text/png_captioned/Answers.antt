@@ -1,6 +1,6 @@
 -- The rows are those of the image, and have the pixels of the picture and of the text.
-use Rattle.std.proofs.Common.{◌≡◌, ◌+◌, ◌*◌, ◌/◌, length, map, ◌∙◌, ap, refl, subst, sym, arith}
-use Rattle.std.specs.Prelude.{IfOk, Some, max}
+use Rattle.std.proofs.Common.{◌≡◌, ◌+◌, ◌*◌, length, map, ◌∙◌, ap, refl, subst, sym, arith}
+use Rattle.std.specs.Prelude.{IfOk, Some}
 use Rattle.std.specs.Option.{option_copied}
 use Rattle.std.specs.String.{string_bytes}
 use Rattle.std.proofs.lemmas.List.{length-map}

@@ -1,7 +1,6 @@
 -- One line more, and all of them.
-use Rattle.std.proofs.Common.{◌≡◌, ◌++◌, ◌∙◌, [], ◌∷◌, ap, sym, map, length, get_or, append_assoc, arith}
+use Rattle.std.proofs.Common.{◌++◌, ◌∙◌, ap, map, arith}
 use Rattle.std.specs.String.{string_bytes}
-use Rattle.std.proofs.lemmas.Grind.{common_steps}
 use Rattle.picture_settings.proofs.Ranges.{joined}
 use Rattle.qrcode_render.specs.Captions.{each_line, first_lines}
 use Rattle.qrcode_render.specs.CaptionTypes.{block_of}

@@ -3,7 +3,7 @@ use Rattle.std.proofs.Common.{◌≡◌, ◌++◌, ◌∙◌}
 use Rattle.std.specs.String.{string_bytes}
 use Rattle.std.specs.Option.{option_copied}
 use Rattle.picture_settings.proofs.Ranges.{six_pieces}
-use Rattle.grid_pictures.specs.{Pictures.columns_of, Pictures.rows_of, Pictures.pixel_width, Pictures.pixel_height, Picture.shown}
+use Rattle.grid_pictures.specs.{Pictures.columns_of, Pictures.rows_of, Pictures.pixel_width, Picture.shown}
 use Rattle.grid_pictures.specs.{Paths.path, Pens.rectangle}
 use Rattle.qrcode_render.specs.Svg.{svg_side, svg_tag, title_element, svg_ground, path_start, stroke, svg_end}
 use Rattle.qrcode_render.specs.Captions.{block_below, high, high_pixels}

@@ -1,7 +1,6 @@
 -- One line more.
-use Rattle.std.proofs.Common.{◌≡◌, ◌++◌, ◌∙◌, zero, suc, [], ◌∷◌, ap, sym, map, length, get_or, append_assoc, append-nil, arith}
+use Rattle.std.proofs.Common.{◌≡◌, ◌++◌, ◌∙◌, ap, sym, map, append_assoc, append-nil, arith}
 use Rattle.std.specs.String.{string_bytes}
-use Rattle.std.proofs.lemmas.Grind.{common_steps}
 use Rattle.picture_settings.proofs.Ranges.{joined}
 use Rattle.qrcode_render.specs.Captions.{first_lines}
 use Rattle.qrcode_render.specs.Zpl.{block_data, block_line, line_break}
