@@ -72,7 +72,7 @@ impl Settings {
     }
 
     /// Returns the same settings with the number of pixels in an inch, 50 to 2400: of PNG, and not
-    /// beside `module_mm`.
+    /// beside `module_mm`; and of ZPL, whose labels stay the same.
     pub fn dpi(self, pixels: u16) -> Settings {
         Settings { dpi: Some(pixels), ..self }
     }
