@@ -31,8 +31,9 @@ pub fn png_captioned(
     colors: Colors,
 ) -> Result<Vec<u8>, AllocError>
     requires { IfSome per_metre (λ n. n < 2 ^ 31) }
-    ensures { IfOk result (λ file. read_png file.items ≡ Some (png_captioned per_metre
-        (option_copied texts.entry.title) (option_copied texts.entry.caption) colors (shown picture.now))) }
+    ensures { IfOk result (λ file. read_png file.items ≡ Some
+        (png_captioned per_metre (option_copied texts.entry.title)
+        (option_copied texts.entry.caption) colors (shown picture.now))) }
 {
     let Some(caption) = texts.caption else {
         return png_file(alloc, picture, per_metre, texts.title, colors);
