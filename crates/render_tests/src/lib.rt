@@ -15,8 +15,6 @@ mod config_tests;
 #[cfg(test)]
 mod format_tests;
 #[cfg(test)]
-mod letter_tests;
-#[cfg(test)]
 mod pdf_tests;
 #[cfg(test)]
 mod png_tests;
