@@ -55,7 +55,7 @@ QUICK_FAULTS = {
     "a program that fails": ("program qrlabel", "cat stdout; exit 1"),
     "a test that fails": ("tests layer_tests", "echo 'test result: FAILED. 2 passed; 1 failed'"),
     "a test that is killed": ("tests grid_tests", "kill -KILL $$"),
-    "a test that passes none": ("tests version_tests", "echo '0 passed; 0 failed'"),
+    "a test that passes none": ("tests qrcode_tests", "echo '0 passed; 0 failed'"),
     "a part that fails": ("tools/quotes", "echo '7 passed, 1 failed'; exit 1"),
     "a part that is killed": ("tools/definitions", "kill -KILL $$"),
     "what is left behind": ("tools/tree --clean", "echo '0 passed, 1 failed'; exit 1"),

@@ -1,5 +1,4 @@
 pub mod DeviceLemmas
-pub mod Levels
 pub mod LineLemmas
 pub mod QuoteLemmas
 pub mod Ranges

@@ -1,5 +1,5 @@
 //! What the programs share: the arguments of the process, devices to read from and write to,
-//! reading and writing all of something, and running a program from its arguments to its status.
+//! reading and writing all of something, and how they report an error.
 //!
 //! ```text
 //! let mut reader = FromReader::new(stdin);
@@ -32,7 +32,6 @@ mod lines;
 mod quotes;
 mod reasons;
 mod reports;
-mod runs;
 
 pub use descriptors::held_descriptors;
 pub use devices::{FromReader, FromWriter, Sink, Source};
@@ -42,7 +41,6 @@ pub use lines::{read_line, skip_line};
 pub use quotes::{Word, has_control, write_word_line};
 pub use reasons::{CLOSED_PIPE, is_closed_pipe, reason_text, report_device};
 pub use reports::{report, write_line};
-pub use runs::{Program, draw, run};
 
 /// Returns the arguments of the process without the program's name. There are none if one of them
 /// is not valid UTF-8. It fails only for lack of memory.

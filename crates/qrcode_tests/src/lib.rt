@@ -1,5 +1,6 @@
-//! Tests that cross crates: symbols, sequences and views of `qrcode_core`, read back by
-//! `plain_reader`, and calls whose allocations fail (`tools/refuse-growth`).
+//! Tests that cross crates: symbols of all versions and levels, sequences and views of
+//! `qrcode_core`, read back by `plain_reader`, and calls whose allocations fail
+//! (`tools/refuse-growth`).
 #![tactic(auto)]
 
 #[cfg(test)]
@@ -11,6 +12,8 @@ mod cut_tests;
 #[cfg(test)]
 mod grids;
 #[cfg(test)]
+mod read_back;
+#[cfg(test)]
 mod refused_growth;
 #[cfg(test)]
 mod registry_tests;
@@ -21,4 +24,8 @@ mod symbol_calls;
 #[cfg(test)]
 mod symbol_tests;
 #[cfg(test)]
+mod turned_modules;
+#[cfg(test)]
 mod view_tests;
+#[cfg(test)]
+mod worked_symbols;

@@ -4,7 +4,7 @@ use Rattle.std.specs.List.{flat_map, range_with_len}
 use Rattle.qrcode_core.specs.declared.types.Color.{Color}
 use Rattle.qrcode_core.specs.declared.types.Color.TheVariants.{Light, Dark}
 use Rattle.qrcode_core.specs.Grids.{Grid, grid_of, row_of}
-use Rattle.programs.specs.Calls.{IsSymbolOf}
+use Rattle.qrtext.specs.Calls.{IsSymbolOf}
 use Rattle.qrtext.specs.declared.request.Request.{Request}
 
 -- ---- The text of a grid: one line for each row, `#` for dark and `.` for light

@@ -4,7 +4,7 @@ use Rattle.std.specs.Str.{trim}
 use Rattle.qrcode_core.specs.declared.types.EcLevel.{EcLevel}
 use Rattle.qrcode_core.specs.declared.types.errors.QrError.{QrError}
 use Rattle.qrcode_core.specs.Names.{NamesLevel}
-use Rattle.programs.specs.Calls.{IsRefusalOf}
+use Rattle.qrtext.specs.Calls.{IsRefusalOf}
 use Rattle.qrtext.specs.declared.request.Request.{Request}
 
 -- The request for a symbol of this level, with `true` for a Micro symbol.

@@ -1,11 +1,12 @@
 //! What the arguments ask for, and its text.
-ghost use Rattle.std.specs.Prelude.{◌≡◌, map, IfOk, MatchOption};
+ghost use Rattle.std.specs.Prelude.{◌≡◌, ◌≢◌, ◌≤◌, length, map, IfOk, IfErr, OnOk, MatchOption};
+ghost use Rattle.qrcode_base.specs.declared.symbols.TheConstants.{LONGEST_DATA};
+ghost use Rattle.qrcode_base.specs.declared.types.errors.QrError.TheVariants.{OutOfMemory};
 ghost use Rattle.qrcode_core.specs.Symbol.{drawn_grid};
-ghost use Rattle.programs.specs.Outcome.{AskForNone};
-ghost use Rattle.qrtext.specs.Drawing.{grid_text};
-ghost use Rattle.qrtext.specs.Words.{AskForText};
+ghost use Rattle.qrtext.specs.Drawing.{ShowsText, grid_text};
+ghost use Rattle.qrtext.specs.Outcome.{AskForNone};
+ghost use Rattle.qrtext.specs.Words.{text_request, AskForText, RefusesText};
 
-use programs::Program;
 use qrcode_core::symbol::Symbol;
 use qrcode_core::traits::ModuleSource;
 use qrcode_core::types::{EcLevel, QrResult};
@@ -20,50 +21,8 @@ pub struct Request {
     pub micro: bool,
 }
 
-impl Program for Request {
-    ghost use Rattle.qrtext.specs.declared.request.Request.{Request as TextRequest};
-    ghost use Rattle.qrtext.specs.Drawing.{ShowsText};
-    ghost use Rattle.qrtext.specs.Words.{RefusesText, qrtext_name, qrtext_usage};
-
-    ghost Request = { TextRequest };
-
-    ghost request = { λ request. request };
-
-    ghost asks = { AskForText };
-
-    ghost shows = { ShowsText };
-
-    ghost refuses = { RefusesText };
-
-    ghost name = { qrtext_name };
-
-    ghost usage = { qrtext_usage };
-
-    fn name() -> &'static str {
-        "qrtext"
-    }
-
-    fn usage() -> &'static str {
-        "usage: qrtext L|M|Q|H [micro]\n"
-    }
-
-    #[tactic(auto, using(crate::proofs::Requests::ask_for_one))]
-    fn request_of(words: &[&str]) -> Option<Request> {
-        parsed(words)
-    }
-
-    fn drawing(&self, alloc: Global, bytes: &[u8]) -> QrResult<Vec<u8>> {
-        let symbol = if self.micro {
-            Symbol::micro(alloc, bytes, self.level)?
-        } else {
-            Symbol::new(alloc, bytes, self.level)?
-        };
-        Ok(text_of(alloc, &symbol)?)
-    }
-}
-
-/// Returns the request of the arguments, or `None` if they are invalid.
-fn parsed(words: &[&str]) -> Option<Request>
+/// Returns what the arguments ask for, or `None` if they are invalid.
+pub fn request_of(words: &[&str]) -> Option<Request>
     ensures { MatchOption result
         (AskForNone AskForText (map (λ word. word.now) words.now))
         (AskForText (map (λ word. word.now) words.now)) }
@@ -82,6 +41,22 @@ fn parsed(words: &[&str]) -> Option<Request>
         }
         _ => None,
     }
+}
+
+/// Returns the text of the symbol of the bytes, or with `micro` of their Micro symbol. There is none
+/// of more than 7089 bytes.
+pub fn drawing(alloc: Global, bytes: &[u8], level: EcLevel, micro: bool) -> QrResult<Vec<u8>>
+    ensures shown { IfOk result (λ text. ShowsText (text_request micro level) bytes.now text.items) }
+    ensures limit { OnOk result (length bytes.now ≤ LONGEST_DATA) }
+    ensures refusal { IfErr result (λ error.
+        error ≢ OutOfMemory → RefusesText (text_request micro level) bytes.now error) }
+{
+    let symbol = if micro {
+        Symbol::micro(alloc, bytes, level)?
+    } else {
+        Symbol::new(alloc, bytes, level)?
+    };
+    Ok(text_of(alloc, &symbol)?)
 }
 
 /// Returns the text of a symbol: one line for each row.

@@ -3,7 +3,7 @@ use Rattle.std.proofs.Common.{rules, arith, ◌≡◌, ◌≤◌, ◌<◌, ℕ, 
 use Rattle.std.{specs.Prelude.codes, specs.Str.trim, proofs.lemmas.Grind.common_steps}
 use Rattle.qrcode_core.specs.{declared.types.EcLevel.EcLevel, Names.NamesLevel}
 use Rattle.qrtext.specs.Words.{text_request, AskForText}
-use Rattle.qrtext.proofs.request.parsed.Goals as goal
+use Rattle.qrtext.proofs.request.request_of.Goals as goal
 
 abbrev no_word : Bor (List ℕ)
 no_word = record { ref_ptr = (0, 0); now = [] }

@@ -1,4 +1,4 @@
--- The symbol that a program draws, and the error if there is none.
+-- The symbol that `qrtext` draws, and the error if there is none.
 use Rattle.std.specs.Prelude.{ℕ, Bool, true, false, List}
 use Rattle.qrcode_base.specs.declared.types.errors.QrError.{QrError}
 use Rattle.qrcode_base.specs.declared.types.Color.{Color}
