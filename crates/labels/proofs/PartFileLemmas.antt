@@ -96,14 +96,6 @@ puts_some label options r s f e name path ds details stop are some sound (inr wh
 pub item_at : (vs : List (Vec ℕ Global)) (i : ℕ) (d : Vec ℕ Global) → i < length vs → get_or (map vec_items vs) i [] ≡ (get_or vs i d).items
 item_at vs i d within = grind (arith, common_steps)
 
--- no file was written where memory ran out, or there are no labels
-pub puts_none_or : (label : Label) (options : DrawOptions) (r s : SourceState) (f : FilesState) (name : Numbering) (path bytes : List ℕ) (stop : Stop) →
-    ReadsUpTo (most_together label.content) (input r s) bytes → (stop ≡ Fault (Symbol OutOfMemory)) ⊎ IsMessageStop label bytes stop → s.failed ≡ false → f.failed ≡ false →
-    IsPartsOutcome label options (input r s) f f name path (Err stop)
-puts_none_or label options r s f name path bytes stop read (inl memory) sound whole =
-    rw memory (record { puts = inl ((λ other. absurd (other refl)), adds_none f.files); read = grind (arith, sound); write = grind (arith, whole) })
-puts_none_or label options r s f name path bytes stop read (inr is) sound whole = puts_none label options r s f name path bytes stop read is sound whole
-
 pub puts_first : (label : Label) (options : DrawOptions) (r s : SourceState) (f e : FilesState) (name : Numbering) (path : List ℕ) (ds : List (List ℕ)) (details : List ℕ) (stop : Stop) →
     AreDrawings label options (input r s) ds details → PutsSome name ds f e stop path → s.failed ≡ false → IsPartsOutcome label options (input r s) f e name path (Err stop)
 puts_first label options r s f e name path ds details stop are some sound =

@@ -20,7 +20,7 @@ use label_words::{Label, Numbering, write_numbered};
 use programs::{Fault, Source, read_up_to};
 use qrcode_core::types::QrError;
 use qrcode_render::DrawOptions;
-use single_label::{Stop, details_message, message_labels, most_together};
+use single_label::{Stop, message_labels, most_together};
 use std::alloc::Global;
 
 /// Writes a drawing into the file of this number. It fails if the file could not be written, whose
@@ -98,16 +98,12 @@ pub fn put_message<R: Source, F: Files>(
         (input (R.state reader.old) (R.state reader.new)) }
 {
     let bytes = read_up_to(alloc, most_together(label.content), reader)?;
-    let drawings = match message_labels(alloc, label, options, &bytes) {
-        Ok(drawings) => drawings,
+    let message = match message_labels(alloc, label, options, &bytes) {
+        Ok(message) => message,
         Err(stop) => return Err(stop),
     };
-    let details = match details_message(alloc, label, options, &bytes) {
-        Ok(details) => details,
-        Err(stop) => return Err(stop),
-    };
-    match put_parts(&drawings, name, path, files) {
-        Ok(()) => Ok(details),
+    match put_parts(&message.drawings, name, path, files) {
+        Ok(()) => Ok(message.details),
         Err(stop) => Err(stop),
     }
 }

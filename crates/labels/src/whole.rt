@@ -17,9 +17,7 @@ use crate::stop::Devices;
 use label_words::{Label, Numbering};
 use programs::{Sink, Source, read_up_to, write_all};
 use qrcode_render::DrawOptions;
-use single_label::{
-    Stop, details_bytes, details_message, label_bytes, message_text, most_bytes, most_together,
-};
+use single_label::{Stop, WithDetails, label_bytes, message_text, most_bytes, most_together};
 use std::alloc::Global;
 
 /// Reads to the end, writes the label of all bytes that were read, and flushes. It reads at most one
@@ -40,16 +38,12 @@ fn draw_label<R: Source, W: Sink>(
         (input (R.state reader.old) (R.state reader.new)) }
 {
     let bytes = read_up_to(alloc, most_bytes(label.content), reader)?;
-    let drawing = match label_bytes::<Vec<u8>>(alloc, label, options, &bytes) {
-        Ok(drawing) => drawing,
+    let both = match label_bytes::<WithDetails>(alloc, label, options, &bytes) {
+        Ok(both) => both,
         Err(stop) => return Err(stop),
     };
-    let details = match details_bytes(alloc, label, options, &bytes) {
-        Ok(details) => details,
-        Err(stop) => return Err(stop),
-    };
-    match write_all(writer, &drawing) {
-        Ok(()) => Ok(details),
+    match write_all(writer, &both.drawing) {
+        Ok(()) => Ok(both.details),
         Err(fault) => Err(Stop::from(fault)),
     }
 }
@@ -72,16 +66,12 @@ fn draw_message<R: Source, W: Sink>(
         (input (R.state reader.old) (R.state reader.new)) }
 {
     let bytes = read_up_to(alloc, most_together(label.content), reader)?;
-    let drawing = match message_text(alloc, label, options, &bytes) {
-        Ok(drawing) => drawing,
+    let both = match message_text(alloc, label, options, &bytes) {
+        Ok(both) => both,
         Err(stop) => return Err(stop),
     };
-    let details = match details_message(alloc, label, options, &bytes) {
-        Ok(details) => details,
-        Err(stop) => return Err(stop),
-    };
-    match write_all(writer, &drawing) {
-        Ok(()) => Ok(details),
+    match write_all(writer, &both.drawing) {
+        Ok(()) => Ok(both.details),
         Err(fault) => Err(Stop::from(fault)),
     }
 }

@@ -1,3 +1,4 @@
+pub mod BesideLemmas
 pub mod CaptionLemmas
 pub mod DetailsLemmas
 pub mod MarkLemmas

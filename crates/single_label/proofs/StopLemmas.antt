@@ -1,5 +1,5 @@
 -- Why there is no label.
-use Rattle.std.proofs.Common.{◌≡◌, ◌≢◌, ◌⊎◌, ◌<◌, ◌≤◌, ℕ, Bool, Some, List, [], length, inl, inr, true, false, refl, arith}
+use Rattle.std.proofs.Common.{◌≡◌, ◌≢◌, ◌⊎◌, ◌<◌, ◌≤◌, ℕ, Bool, Option, None, Some, List, [], length, inl, inr, true, false, refl, arith}
 use Rattle.std.specs.Prelude.{Result, Ok, Err, IfOk, IfErr, OnOk}
 use Rattle.programs.specs.declared.Fault.{Fault as FaultOf}
 use Rattle.programs.specs.declared.Fault.TheVariants.{Symbol, Read, Write}
@@ -176,57 +176,12 @@ message_no_details label content stop grid short is (inl h) = rw h (refl, inl (r
 message_no_details label content stop grid short is (inr h) =
     let reason = has_no_data label.content label.symbol content stop short h in (reason.0, inr reason.1)
 
--- ---- The details_label label
+-- ---- Details beside a label
 
-details_long_any : (label : Label) (t : TooLongOf) → IsTooLongForAny (details_label label) t → IsTooLongForAny label t
-details_long_any label t h = record {
-  many = h.many;
-  version_is = h.version_is;
-  level_is = h.level_is;
-  fits = h.fits;
-  splits = h.splits;
-  text = h.text;
-}
-
-details_long : (label : Label) (content : List ℕ) (t : TooLongOf) → IsTooLongAs (details_label label) content t → IsTooLongAs label content t
-details_long label content t h = record {
-  length_is = h.length_is;
-  version_is = h.version_is;
-  level_is = h.level_is;
-  front = h.front;
-  front_is = h.front_is;
-  bytes_are = h.bytes_are;
-  digits_are = h.digits_are;
-  fits = h.fits;
-  splits = h.splits;
-  text = h.text;
-}
-
-details_content : (label : Label) (content : List ℕ) (stop : Stop) → IsContentStop (details_label label) content stop → IsContentStop label content stop
-details_content label content (Fault fault) h = h
-details_content label content (Elements at) h = h
-details_content label content (NotAllowed error) h = h
-details_content label content (NoLink error) h = h
-details_content label content Empty h = h
-details_content label content NoMicroText h = h
-details_content label content TooManyParts h = h
-details_content label content TooManyPages h = h
-details_content label content (TooLong t) h = (h.0, details_long label content t h.1, h.2)
-
-details_text : (label : Label) (text : List ℕ) (stop : Stop) → IsTextStop (details_label label) text stop → IsTextStop label text stop
-details_text label text stop (inl h) = inl h
-details_text label text stop (inr (some, inl h)) = inr (some, inl h)
-details_text label text stop (inr (some, inr (content, said, h))) = inr (some, inr (content, said, details_content label content stop h))
-
-pub details_stop : (label : Label) (bytes : List ℕ) (stop : Stop) → IsLabelStop (details_label label) bytes stop → IsLabelStop label bytes stop
-details_stop label bytes stop (inl h) =
-    inl (record { many = h.many; too_long = h.too_long; is_too_long = details_long_any label h.too_long h.is_too_long; stop_is = h.stop_is })
-details_stop label bytes stop (inr h) =
-    inr (record { short = h.short; text = h.text; text_is = h.text_is; stopped = details_text label h.text stop h.stopped })
-
-pub details_stop_message : (label : Label) (bytes : List ℕ) (stop : Stop) → IsMessageStop (details_label label) bytes stop → IsMessageStop label bytes stop
-details_stop_message label bytes stop (inl h) = inl h
-details_stop_message label bytes stop (inr h) = inr (record { short = h.short; content = h.content; content_is = h.content_is; stopped = h.stopped })
+-- why a symbol has no details beside its label is why it has no details
+pub beside_stop : (label : Label) (content : Option (List ℕ)) (stop : Stop) → IsDetailsStop (details_label label) content stop → IsDetailsStop label content stop
+beside_stop label None stop h = h
+beside_stop label (Some content) stop h = h
 
 -- ---- A link
 

@@ -145,11 +145,23 @@ abbrev pub is_beside : Details → Bool
 is_beside Beside = true
 is_beside _ = false
 
+-- The details beside the drawing of a symbol, if they are asked for, else nothing; `content` is given
+-- if the symbol has all of it.
+abbrev pub AreBeside : Label → DrawOptions → (content : Option (List ℕ)) → DrawnSymbol → List ℕ → Type 0
+AreBeside label options content symbol details =
+    ((is_beside label.details ≡ true) × AreDetails (details_label label) options content symbol details)
+    ⊎ ((is_beside label.details ≡ false) × (details ≡ []))
+
 -- The details beside a drawing: those of the same bytes, if they are asked for, else nothing.
 abbrev pub AreDetailsBeside : Label → (Label → List ℕ → List ℕ → Type 0) → List ℕ → List ℕ → Type 0
 AreDetailsBeside label shows bytes details =
     ((is_beside label.details ≡ true) × shows (details_label label) bytes details)
     ⊎ ((is_beside label.details ≡ false) × (details ≡ []))
+
+-- The details beside the drawing of a content.
+abbrev pub AreContentDetails : Label → DrawOptions → (text content details : List ℕ) → Type 0
+AreContentDetails label options text content details =
+    AreDetailsBeside label (λ other said. ShowsContent other options said content) text details
 
 -- Why there is no label of the bytes: they are more than a content of a symbol has, or there is none
 -- of their content.

@@ -1,7 +1,7 @@
 -- A message in one symbol, or spread over several that carry it together (ISO/IEC 18004:2006,
 -- "Structured Append").
 use Rattle.std.specs.Prelude.{◌≡◌, ◌⊎◌, ◌<◌, ◌≤◌, ◌*◌, ℕ, ⊤, nat_abs}
-use Rattle.std.specs.Prelude.{false, List, [], ◌∷◌, length, map, flat_map, None, Some}
+use Rattle.std.specs.Prelude.{true, false, List, [], ◌∷◌, length, map, flat_map, None, Some}
 use Rattle.std.specs.Str.{IsUtf8}
 use Rattle.programs.specs.declared.Fault.TheVariants.{Symbol}
 use Rattle.qrcode_bits.specs.declared.bits.front.Content.{Content as FrontContent}
@@ -17,7 +17,8 @@ use Rattle.qrcode_core.specs.declared.types.errors.QrError.TheVariants.{OutOfMem
 use Rattle.picture_settings.specs.declared.draw_options.DrawOptions.{DrawOptions}
 use Rattle.single_label.specs.Contents.{IsContent, IsPlain, IsBeyondAscii, IsNoUtf8, IsSymbolAs}
 use Rattle.single_label.specs.Contents.{IsStopAs}
-use Rattle.single_label.specs.Labels.{IsLabelData, IsNotDrawn, ShowsSymbol}
+use Rattle.single_label.specs.Labels.{AreDetailsBeside, IsLabelData, IsNotDrawn, ShowsSymbol}
+use Rattle.single_label.specs.Labels.{details_label, is_beside}
 use Rattle.single_label.specs.Contents.{is_too_long, most_bytes}
 use Rattle.label_words.specs.declared.command.Content.{Content}
 use Rattle.label_words.specs.declared.command.Content.TheVariants.{Auto, Text, Bytes}
@@ -178,3 +179,17 @@ all_drawings drawings = flat_map (λ drawing. drawing) drawings
 abbrev pub ShowsMessage : Label → DrawOptions → List ℕ → List ℕ → Type 0
 ShowsMessage label options bytes drawing =
     (drawings : List (List ℕ)) × (drawing ≡ all_drawings drawings) × ShowMessage label options bytes drawings
+
+-- The details beside the labels of some symbols, one after the other, if they are asked for, else
+-- nothing.
+abbrev pub AreEachBeside : Label → DrawOptions → List DrawnSymbol → List ℕ → Type 0
+AreEachBeside label options symbols details =
+    ((is_beside label.details ≡ true)
+    × ((all : List (List ℕ)) × (details ≡ all_drawings all) × ShowEach (details_label label) options symbols all))
+    ⊎ ((is_beside label.details ≡ false) × (details ≡ []))
+
+-- The details beside the labels of the symbols that carry a content together.
+abbrev pub AreTogetherBeside : Label → DrawOptions → (content details : List ℕ) → Type 0
+AreTogetherBeside label options content details =
+    AreDetailsBeside label (λ other said text.
+    (all : List (List ℕ)) × (text ≡ all_drawings all) × AreLabelsTogether other options said all) content details

@@ -1,8 +1,10 @@
 //! From bytes to the label of their symbol.
-ghost use Rattle.std.specs.Prelude.{◌≡◌, ◌≢◌, ◌≤◌, ◌⊎◌, ℕ, List, [], length, true, IfOk, IfErr, OnOk};
+ghost use Rattle.std.specs.Prelude.{◌≡◌, ◌≢◌, ◌≤◌, ◌⊎◌, ℕ, List, [], length, true};
+ghost use Rattle.std.specs.Prelude.{IfOk, IfErr, IfSome, OnOk};
 ghost use Rattle.std.specs.Option.{option_copied};
 ghost use Rattle.single_label.specs.Labels.{ShowsLabel, ShowsSymbol, IsSymbolPicture, IsLabelStop};
-ghost use Rattle.single_label.specs.Labels.{AreDetailsBeside, details_label};
+ghost use Rattle.single_label.specs.Labels.{AreBeside, AreContentDetails, AreDetailsBeside};
+ghost use Rattle.single_label.specs.Labels.{details_label};
 ghost use Rattle.single_label.specs.Contents.{is_too_long, most_bytes};
 ghost use Rattle.single_label.specs.Labels.{ShowsContent, IsLabelData, IsContentStop, IsCaptioned};
 ghost use Rattle.single_label.specs.Captions.{IsContentOf};
@@ -39,6 +41,8 @@ pub fn label_bytes<S: Shown>(
     requires { S.allowed label.now options.now }
     ensures drawn { IfOk result (λ shown. ShowsLabel label.now options.now bytes.now
         (S.drawing label.now options.now shown)) }
+    ensures beside { IfOk result (λ shown. IfSome (S.beside shown)
+        (AreDetailsBeside label.now (λ other. ShowsLabel other options.now) bytes.now)) }
     ensures limit { OnOk result (length bytes.now ≤ most_bytes label.now.content) }
     ensures refusal { IfErr result (IsLabelStop label.now bytes.now) }
 {
@@ -69,6 +73,9 @@ fn link_label<S: Shown>(
         × IsLink label.now.upper label.now.domain.now elements.now link × (link ≢ [])
         × ShowsContent label.now options.now elements.now link
         (S.drawing label.now options.now shown)) }
+    ensures beside { IfOk result (λ shown. IfSome (S.beside shown) (λ details. (link : List ℕ)
+        × IsLink label.now.upper label.now.domain.now elements.now link × (link ≢ [])
+        × AreContentDetails label.now options.now elements.now link details)) }
     ensures refusal { IfErr result (λ stop. IsLinkStop label.now.domain.now elements.now stop
         ⊎ ((link : List ℕ)
         × IsLink label.now.upper label.now.domain.now elements.now link × (link ≢ [])
@@ -93,6 +100,8 @@ fn content_label<S: Shown>(
     requires said { IsContentOf label.now.content text.now content.now }
     ensures shown { IfOk result (λ shown. ShowsContent label.now options.now text.now content.now
         (S.drawing label.now options.now shown)) }
+    ensures beside { IfOk result (λ shown. IfSome (S.beside shown)
+        (AreContentDetails label.now options.now text.now content.now)) }
     ensures refusal { IfErr result (IsContentStop label.now content.now) }
 {
     let symbol = match content_symbol(alloc, label.content, &label.symbol, content) {
@@ -171,20 +180,21 @@ pub fn details_label<'a>(label: &Label<'a>) -> Label<'a>
     alone
 }
 
-/// Returns the details beside the label of the bytes: none, unless they are asked for. It fails as
-/// `label_bytes` does.
-pub fn details_bytes(
+/// Returns the details beside the label of a symbol: none, unless they are asked for. It fails as
+/// `symbol_text` does.
+pub(crate) fn details_beside(
     alloc: Global,
     label: &Label,
     options: &DrawOptions,
-    bytes: &[u8],
+    content: Option<&[u8]>,
+    symbol: &Symbol,
 ) -> Result<Vec<u8>, Stop>
-    ensures details { IfOk result (λ details. AreDetailsBeside label.now
-        (λ other. ShowsLabel other options.now) bytes.now details.items) }
-    ensures refusal { IfErr result (IsLabelStop label.now bytes.now) }
+    ensures details { IfOk result (λ details. AreBeside label.now options.now
+        (option_copied content.entry) symbol.now details.items) }
+    ensures refusal { IfErr result (IsDetailsStop label.now (option_copied content.entry)) }
 {
     if label.details == Details::Beside {
-        return label_bytes(alloc, &details_label(label), options, bytes);
+        return symbol_text(alloc, &details_label(label), options, content, symbol);
     }
     Ok(Vec::new(alloc))
 }

@@ -3,9 +3,8 @@
 //! 1. Make the symbol of the content of the input (`content`, `element`), or the symbols that carry
 //!    it together (`parts`).
 //! 2. Draw it (`label`, `colors`, `turned`), with its elements below it where they are asked for
-//!    (`caption`), write its details (`details`,
-//!    `text_details`), or make it a page of a document (`shown`,
-//!    `turned`).
+//!    (`caption`), write its details (`details`, `text_details`), or make it a page of a document
+//!    (`shown`, `turned`).
 //! 3. Where there is no label, say why (`stop`), and how much there is room for (`room`).
 //!
 //! ```text
@@ -31,8 +30,8 @@ mod widths;
 
 pub use content::most_bytes;
 pub use element::element_number;
-pub use label::{details_bytes, label_bytes};
-pub use parts::{details_message, message_labels, message_text, most_together};
-pub use shown::{PageSymbol, Said, Shown, are_pages, page_drawn};
+pub use label::label_bytes;
+pub use parts::{Message, message_labels, message_text, most_together};
+pub use shown::{PageSymbol, Said, Shown, WithDetails, are_pages, page_drawn};
 pub use stop::{ElementStop, Stop, TextLength, TooLong};
 pub use widths::physical_width;

@@ -8,7 +8,8 @@ ghost use Rattle.single_label.specs.Parts.{IsSequenceOf, IsSequenceFault, IsText
 ghost use Rattle.single_label.specs.Parts.{IsSmallestSequence, IsSmallestSequenceFault};
 ghost use Rattle.single_label.specs.Parts.{IsTextFault, IsSequenceAs, IsSequenceFaultAs, ShowEach};
 ghost use Rattle.single_label.specs.Parts.{ShowMessage, AreLabelsTogether, ShowsMessage};
-ghost use Rattle.single_label.specs.Labels.{ShowsSymbol, AreDetailsBeside};
+ghost use Rattle.single_label.specs.Parts.{AreEachBeside, AreTogetherBeside};
+ghost use Rattle.single_label.specs.Labels.{ShowsSymbol, AreBeside, AreDetailsBeside};
 ghost use Rattle.single_label.specs.Details.{IsDetailsStop};
 ghost use Rattle.programs.specs.declared.Fault.TheVariants.{Symbol as SymbolFault};
 ghost use Rattle.qrcode_core.specs.declared.types.errors.QrError.TheVariants.{OutOfMemory};
@@ -18,8 +19,8 @@ ghost use Rattle.single_label.specs.Parts.{most_together};
 ghost use Rattle.single_label.specs.declared.content.TheConstants.{LONGEST_TEXT};
 
 use crate::content::{LONGEST_TEXT, content_of, content_symbol, is_ascii, most_bytes, utf8_of};
-use crate::label::{details_label, is_too_long, symbol_label};
-use crate::shown::Said;
+use crate::label::{details_beside, details_label, is_too_long, symbol_label};
+use crate::shown::{Said, WithDetails};
 use crate::stop::Stop;
 use label_words::{Content, Details, Label};
 use qrcode_core::options::SymbolOptions;
@@ -28,6 +29,14 @@ use qrcode_core::types::{QrError, QrResult};
 use qrcode_render::DrawOptions;
 use smallest_symbols::{smallest_text_cuts, smallest_text_sequence};
 use std::alloc::{AllocError, Global};
+
+/// The labels of a message, each of one symbol, and the details of the symbols beside them: none,
+/// unless they are asked for.
+#[derive(Drop)]
+pub struct Message {
+    pub drawings: Vec<Vec<u8>>,
+    pub details: Vec<u8>,
+}
 
 /// Returns how many bytes the content of a sequence of symbols has at most: it has 16 of them.
 pub fn most_together(content: Content) -> usize
@@ -132,23 +141,47 @@ fn labels_of(
     Ok(drawings)
 }
 
+/// Returns the details beside the labels of symbols, one after the other: none, unless they are
+/// asked for. It fails only for lack of memory.
+fn details_of(
+    alloc: Global,
+    label: &Label,
+    options: &DrawOptions,
+    symbols: &[Symbol],
+) -> Result<Vec<u8>, Stop>
+    ensures details { IfOk result (λ details.
+        AreEachBeside label.now options.now symbols.now details.items) }
+    ensures memory { IfErr result (λ stop. stop ≡ FaultStop (SymbolFault OutOfMemory)) }
+{
+    if label.details == Details::Beside {
+        let all = labels_of(alloc, &details_label(label), options, symbols)?;
+        return Ok(all_drawings(alloc, &all)?);
+    }
+    Ok(Vec::new(alloc))
+}
+
 /// Returns the labels of the symbols of the fewest parts of a content.
 fn sequence_labels(
     alloc: Global,
     label: &Label,
     options: &DrawOptions,
     content: &[u8],
-) -> Result<Vec<Vec<u8>>, Stop>
-    ensures shown { IfOk result (λ drawings. AreLabelsTogether label.now options.now content.now
-        (map vec_items drawings.items)) }
+) -> Result<Message, Stop>
+    ensures shown { IfOk result (λ message. AreLabelsTogether label.now options.now content.now
+        (map vec_items message.drawings.items)) }
+    ensures beside { IfOk result (λ message.
+        AreTogetherBeside label.now options.now content.now message.details.items) }
     ensures refusal { IfErr result (λ stop. AreNotDrawn label.now content.now stop
         ⊎ IsPartsStop label.now content.now stop) }
 {
-    match sequence_symbols(alloc, label.content, &label.symbol, content) {
-        Ok(symbols) => labels_of(alloc, label, options, &symbols),
-        Err(QrError::DataTooLong) => Err(Stop::TooManyParts),
-        Err(error) => Err(Stop::from(error)),
-    }
+    let symbols = match sequence_symbols(alloc, label.content, &label.symbol, content) {
+        Ok(symbols) => symbols,
+        Err(QrError::DataTooLong) => return Err(Stop::TooManyParts),
+        Err(error) => return Err(Stop::from(error)),
+    };
+    let drawings = labels_of(alloc, label, options, &symbols)?;
+    let details = details_of(alloc, label, options, &symbols)?;
+    Ok(Message { drawings, details })
 }
 
 /// Returns the labels of a message: one, if a symbol holds its content, or those of the fewest
@@ -160,9 +193,11 @@ pub fn message_labels(
     label: &Label,
     options: &DrawOptions,
     bytes: &[u8],
-) -> Result<Vec<Vec<u8>>, Stop>
-    ensures shown { IfOk result (λ drawings. ShowMessage label.now options.now bytes.now
-        (map vec_items drawings.items)) }
+) -> Result<Message, Stop>
+    ensures shown { IfOk result (λ message. ShowMessage label.now options.now bytes.now
+        (map vec_items message.drawings.items)) }
+    ensures beside { IfOk result (λ message. AreDetailsBeside label.now
+        (λ other. ShowsMessage other options.now) bytes.now message.details.items) }
     ensures limit { OnOk result (length bytes.now ≤ most_together label.now.content) }
     ensures refusal { IfErr result (IsMessageStop label.now bytes.now) }
 {
@@ -180,17 +215,19 @@ pub fn message_labels(
     }
 }
 
-/// Returns the label of one symbol.
+/// Returns the label of one symbol, which holds all of a content.
 fn one_label(
     alloc: Global,
     label: &Label,
     options: &DrawOptions,
     content: &[u8],
     symbol: &Symbol,
-) -> Result<Vec<Vec<u8>>, Stop>
-    ensures shown { IfOk result (λ drawings. (drawing : List ℕ)
-        × (map vec_items drawings.items ≡ drawing ∷ [])
+) -> Result<Message, Stop>
+    ensures shown { IfOk result (λ message. (drawing : List ℕ)
+        × (map vec_items message.drawings.items ≡ drawing ∷ [])
         × ShowsSymbol label.now options.now (Some content.now) None symbol.now drawing) }
+    ensures beside { IfOk result (λ message. AreBeside label.now options.now (Some content.now)
+        symbol.now message.details.items) }
     ensures refusal { IfErr result (IsDetailsStop label.now (Some content.now)) }
 {
     let said = Said {
@@ -198,47 +235,35 @@ fn one_label(
         caption: None,
     };
     let drawing = symbol_label(alloc, label, options, said, symbol)?;
+    let details = details_beside(alloc, label, options, said.content, symbol)?;
     let mut drawings = Vec::new(alloc);
     drawings.push(drawing).map_err(AllocError::from)?;
-    Ok(drawings)
+    Ok(Message { drawings, details })
 }
 
-/// Returns the labels of a message, one after the other. It fails as `message_labels` does, and
-/// with `OutOfMemory`.
+/// Returns the labels of a message, one after the other, and the details beside them. It fails as
+/// `message_labels` does, and with `OutOfMemory`.
 pub fn message_text(
     alloc: Global,
     label: &Label,
     options: &DrawOptions,
     bytes: &[u8],
-) -> Result<Vec<u8>, Stop>
-    ensures shown { IfOk result (λ text. ShowsMessage label.now options.now bytes.now text.items) }
+) -> Result<WithDetails, Stop>
+    ensures shown { IfOk result (λ both.
+        ShowsMessage label.now options.now bytes.now both.drawing.items) }
+    ensures beside { IfOk result (λ both. AreDetailsBeside label.now
+        (λ other. ShowsMessage other options.now) bytes.now both.details.items) }
     ensures limit { OnOk result (length bytes.now ≤ most_together label.now.content) }
     ensures refusal { IfErr result (λ stop. (stop ≡ FaultStop (SymbolFault OutOfMemory))
         ⊎ IsMessageStop label.now bytes.now stop) }
 {
-    match message_labels(alloc, label, options, bytes) {
-        Ok(drawings) => Ok(all_drawings(alloc, &drawings)?),
-        Err(stop) => Err(stop),
-    }
-}
-
-/// Returns the details beside the labels of a message: none, unless they are asked for. It fails
-/// as `message_labels` does, and with `OutOfMemory`.
-pub fn details_message(
-    alloc: Global,
-    label: &Label,
-    options: &DrawOptions,
-    bytes: &[u8],
-) -> Result<Vec<u8>, Stop>
-    ensures details { IfOk result (λ details. AreDetailsBeside label.now
-        (λ other. ShowsMessage other options.now) bytes.now details.items) }
-    ensures refusal { IfErr result (λ stop. (stop ≡ FaultStop (SymbolFault OutOfMemory))
-        ⊎ IsMessageStop label.now bytes.now stop) }
-{
-    if label.details == Details::Beside {
-        return message_text(alloc, &details_label(label), options, bytes);
-    }
-    Ok(Vec::new(alloc))
+    let message = match message_labels(alloc, label, options, bytes) {
+        Ok(message) => message,
+        Err(stop) => return Err(stop),
+    };
+    let drawing = all_drawings(alloc, &message.drawings)?;
+    let details = message.details;
+    Ok(WithDetails { drawing, details })
 }
 
 /// Returns the drawings one after the other. It fails only for lack of memory.

@@ -1,10 +1,11 @@
 //! What a label shows of a symbol: its picture or its details, or its page in a document.
-ghost use Rattle.std.specs.Prelude.{◌≡◌, ◌<◌, ℕ, ⊤, List, Option, true, IfOk, IfErr, OnOk, Err};
+ghost use Rattle.std.specs.Prelude.{◌≡◌, ◌<◌, ℕ, ⊤, List, Option, None, Some, true};
+ghost use Rattle.std.specs.Prelude.{IfOk, IfErr, IfSome, OnOk, Err};
 ghost use Rattle.std.specs.Option.{option_copied, option_map};
 ghost use Rattle.std.specs.String.{string_bytes};
 ghost use Rattle.picture_settings.specs.declared.draw_options.DrawOptions.{DrawOptions};
 ghost use Rattle.single_label.specs.Details.{IsDetailsStop};
-ghost use Rattle.single_label.specs.Labels.{IsCaptioned, ShowsSymbol};
+ghost use Rattle.single_label.specs.Labels.{AreBeside, IsCaptioned, ShowsSymbol};
 ghost use Rattle.qrcode_render.specs.PdfPagesWritten.{after_page, next_page};
 ghost use Rattle.picture_settings.specs.declared.bounds.TheConstants.{MAX_PDF};
 ghost use Rattle.single_label.specs.Pages.{are_pages, page_alone, page_of_symbol};
@@ -12,7 +13,7 @@ ghost use Rattle.single_label.specs.PageSymbols.{page_shown};
 ghost use Rattle.label_words.specs.declared.command.Label.{Label};
 
 use crate::caption::text_in;
-use crate::label::{captioned, symbol_label};
+use crate::label::{captioned, details_beside, symbol_label};
 use crate::stop::Stop;
 use crate::turned::page_turned;
 use label_words::{Details, Label};
@@ -29,12 +30,14 @@ pub struct Said<'a> {
     pub caption: Option<&'a str>,
 }
 
-/// What stands for a label until it is written. `drawing` is the label, and `allowed` says of which
-/// labels there is such a thing.
+/// What stands for a label until it is written. `drawing` is the label, `beside` the details beside it
+/// where it has them, and `allowed` says of which labels there is such a thing.
 pub trait Shown {
     ghost allowed: { Label → DrawOptions → Type 0 };
 
     ghost drawing: { Label → DrawOptions → Self → List ℕ };
+
+    ghost beside: { Self → Option (List ℕ) };
 
     /// Returns what the label shows of a symbol. It fails as `symbol_label` does.
     fn of_symbol(
@@ -48,6 +51,8 @@ pub trait Shown {
         ensures shown { IfOk result (λ shown. ShowsSymbol label.now options.now
             (option_copied said.entry.content) (option_copied said.entry.caption) symbol
             (drawing label.now options.now shown)) }
+        ensures beside { IfOk result (λ shown. IfSome (beside shown)
+            (AreBeside label.now options.now (option_copied said.entry.content) symbol)) }
         ensures refusal { IfErr result
             (IsDetailsStop label.now (option_copied said.entry.content)) };
 }
@@ -58,6 +63,8 @@ impl Shown for Vec<u8> {
 
     ghost drawing = { λ label options bytes. bytes.items };
 
+    ghost beside = { λ bytes. None };
+
     fn of_symbol(
         alloc: Global,
         label: &Label,
@@ -66,6 +73,34 @@ impl Shown for Vec<u8> {
         symbol: Symbol,
     ) -> Result<Vec<u8>, Stop> {
         symbol_label(alloc, label, options, said, &symbol)
+    }
+}
+
+/// The bytes of a label, and the details of its symbol beside it: none, unless they are asked for.
+#[derive(Drop)]
+pub struct WithDetails {
+    pub drawing: Vec<u8>,
+    pub details: Vec<u8>,
+}
+
+/// The bytes of the label, and the details of the symbol that they show.
+impl Shown for WithDetails {
+    ghost allowed = { λ label options. ⊤ };
+
+    ghost drawing = { λ label options both. both.drawing.items };
+
+    ghost beside = { λ both. Some both.details.items };
+
+    fn of_symbol(
+        alloc: Global,
+        label: &Label,
+        options: &DrawOptions,
+        said: Said<'_>,
+        symbol: Symbol,
+    ) -> Result<WithDetails, Stop> {
+        let drawing = symbol_label(alloc, label, options, said, &symbol)?;
+        let details = details_beside(alloc, label, options, said.content, &symbol)?;
+        Ok(WithDetails { drawing, details })
     }
 }
 
@@ -83,6 +118,8 @@ impl Shown for PageSymbol {
     ghost drawing = { λ label options page.
         page_alone (option_copied options.title) (page_of_symbol label options
         (option_map string_bytes page.caption) page.symbol) };
+
+    ghost beside = { λ page. None };
 
     fn of_symbol(
         alloc: Global,

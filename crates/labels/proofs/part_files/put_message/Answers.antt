@@ -7,7 +7,7 @@ use Rattle.programs.proofs.DeviceLemmas.{ReadsAll-short}
 use Rattle.single_label.specs.Parts.{most_together}
 use Rattle.label_words.specs.Numberings.{numbering_of}
 use Rattle.labels.specs.Runs.{AreDrawings}
-use Rattle.labels.proofs.PartFileLemmas.{puts_none, puts_none_or, puts_first}
+use Rattle.labels.proofs.PartFileLemmas.{puts_none, puts_first}
 use Rattle.labels.proofs.part_files.put_message.Goals as goal
 
 pub returns-in-Err-clause-outcome : goal.returns-in-Err-clause-outcome
@@ -16,24 +16,18 @@ returns-in-Err-clause-outcome g c =
     (g.F.Files.state c.args.files.now) (numbering_of c.args.name.now) (string_bytes c.args.path.now) c.in_ok-bytes.bytes.items c.in-Err.stop
     (rw (c.most_together.ensures.is) at c.in_ok-bytes.ensures.read) (rw (c.deref.ensures.value) at c.in-Err.ensures.refusal) (grind (arith, c.in_ok-bytes.ensures.failure)) (search rules)
 
-pub returns-in-Err-details_message-clause-outcome : goal.returns-in-Err-details_message-clause-outcome
-returns-in-Err-details_message-clause-outcome g c =
-    puts_none_or c.args.label.now c.args.options.now (g.R.Source.state c.args.reader.now) (g.R.Source.state c.read_up_to.new.reader)
-    (g.F.Files.state c.args.files.now) (numbering_of c.args.name.now) (string_bytes c.args.path.now) c.in_ok-bytes.bytes.items c.in-Err-details_message.stop
-    (rw (c.most_together.ensures.is) at c.in_ok-bytes.ensures.read) (rw (c.deref-2.ensures.value) at c.in-Err-details_message.ensures.refusal) (grind (arith, c.in_ok-bytes.ensures.failure)) (search rules)
-
 pub returns-clause-outcome : goal.returns-clause-outcome
 returns-clause-outcome g c =
     let r = g.R.Source.state c.args.reader.now in
     let s = g.R.Source.state c.read_up_to.new.reader in
     let bytes = c.in_ok-bytes.bytes.items in
-    let drawings = map vec_items c.in-Ok.drawings.items in
-    let are : AreDrawings c.args.label.now c.args.options.now (input r s) drawings c.in-Ok-details_message.details.items = record {
+    let drawings = map vec_items c.in-Ok.message.drawings.items in
+    let are : AreDrawings c.args.label.now c.args.options.now (input r s) drawings c.in-Ok.message.details.items = record {
       bytes = bytes;
       read = ReadsAll-short (most_together c.args.label.now.content) (input r s) bytes (rw (c.most_together.ensures.is) at c.in_ok-bytes.ensures.read) (rw (c.deref.ensures.value) at c.in-Ok.ensures.limit);
       shown = rw (c.deref.ensures.value) at c.in-Ok.ensures.shown;
-      are_details = rw (c.deref-2.ensures.value) at c.in-Ok-details_message.ensures.details;
+      are_details = rw (c.deref.ensures.value) at c.in-Ok.ensures.beside;
     } in
     puts_first c.args.label.now c.args.options.now r s (g.F.Files.state c.args.files.now) (g.F.Files.state c.put_parts.new.files) (numbering_of c.args.name.now)
-    (string_bytes c.put_parts.new.path) drawings c.in-Ok-details_message.details.items c.in-Err-put_parts.stop are
-    (rw (c.deref-3.ensures.value) at c.in-Err-put_parts.ensures.begun) (grind (arith, c.in_ok-bytes.ensures.failure))
+    (string_bytes c.put_parts.new.path) drawings c.in-Ok.message.details.items c.in-Err-put_parts.stop are
+    (rw (c.deref-2.ensures.value) at c.in-Err-put_parts.ensures.begun) (grind (arith, c.in_ok-bytes.ensures.failure))

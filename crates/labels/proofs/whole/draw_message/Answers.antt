@@ -11,24 +11,18 @@ returns-in-Err-clause-outcome g c =
     (g.W.Sink.state c.args.writer.now) c.in_ok-bytes.bytes.items c.in-Err.stop (no_device_message c.args.label.now c.in_ok-bytes.bytes.items)
     (rw (c.most_together.ensures.is) at c.in_ok-bytes.ensures.read) (rw (c.deref.ensures.value) at c.in-Err.ensures.refusal) (grind (arith, c.in_ok-bytes.ensures.failure)) (search rules)
 
-pub returns-in-Err-details_message-clause-outcome : goal.returns-in-Err-details_message-clause-outcome
-returns-in-Err-details_message-clause-outcome g c =
-    writes_none_or (message_of c.args.label.now c.args.options.now) (g.R.Source.state c.args.reader.now) (g.R.Source.state c.read_up_to.new.reader)
-    (g.W.Sink.state c.args.writer.now) c.in_ok-bytes.bytes.items c.in-Err-details_message.stop (no_device_message c.args.label.now c.in_ok-bytes.bytes.items)
-    (rw (c.most_together.ensures.is) at c.in_ok-bytes.ensures.read) (rw (c.deref-2.ensures.value) at c.in-Err-details_message.ensures.refusal) (grind (arith, c.in_ok-bytes.ensures.failure)) (search rules)
-
 pub returns-in-Ok-write_all-clause-outcome : goal.returns-in-Ok-write_all-clause-outcome
 returns-in-Ok-write_all-clause-outcome g c =
     writes_all (message_of c.args.label.now c.args.options.now) (g.R.Source.state c.args.reader.now) (g.R.Source.state c.read_up_to.new.reader)
-    (g.W.Sink.state c.args.writer.now) (g.W.Sink.state c.write_all.new.writer) c.in_ok-bytes.bytes.items c.in-Ok.drawing.items c.in-Ok-details_message.details.items
+    (g.W.Sink.state c.args.writer.now) (g.W.Sink.state c.write_all.new.writer) c.in_ok-bytes.bytes.items c.in-Ok.both.drawing.items c.in-Ok.both.details.items
     (rw (c.most_together.ensures.is) at c.in_ok-bytes.ensures.read) (rw (c.deref.ensures.value) at c.in-Ok.ensures.limit) (rw (c.deref.ensures.value) at c.in-Ok.ensures.shown)
-    (rw (c.deref-2.ensures.value) at c.in-Ok-details_message.ensures.details) (rw (c.deref-3.ensures.value) at c.write_all.ensures.writes) c.in-Ok-write_all.ensures.flushed
+    (rw (c.deref.ensures.value) at c.in-Ok.ensures.beside) (rw (c.deref-2.ensures.value) at c.write_all.ensures.writes) c.in-Ok-write_all.ensures.flushed
     (grind (arith, c.in_ok-bytes.ensures.failure)) c.in-Ok-write_all.ensures.failure
 
 pub returns-clause-outcome : goal.returns-clause-outcome
 returns-clause-outcome g c =
     rw (c.from.ensures, c.in-Err-write_all.ensures.fault)
     (writes_some (message_of c.args.label.now c.args.options.now) (g.R.Source.state c.args.reader.now) (g.R.Source.state c.read_up_to.new.reader)
-    (g.W.Sink.state c.args.writer.now) (g.W.Sink.state c.write_all.new.writer) c.in_ok-bytes.bytes.items c.in-Ok.drawing.items (rw (c.most_together.ensures.is) at c.in_ok-bytes.ensures.read)
-    (rw (c.deref.ensures.value) at c.in-Ok.ensures.limit) (rw (c.deref.ensures.value) at c.in-Ok.ensures.shown) (rw (c.deref-3.ensures.value) at c.write_all.ensures.writes)
+    (g.W.Sink.state c.args.writer.now) (g.W.Sink.state c.write_all.new.writer) c.in_ok-bytes.bytes.items c.in-Ok.both.drawing.items (rw (c.most_together.ensures.is) at c.in_ok-bytes.ensures.read)
+    (rw (c.deref.ensures.value) at c.in-Ok.ensures.limit) (rw (c.deref.ensures.value) at c.in-Ok.ensures.shown) (rw (c.deref-2.ensures.value) at c.write_all.ensures.writes)
     (grind (arith, c.in_ok-bytes.ensures.failure)) c.in-Err-write_all.ensures.failure)

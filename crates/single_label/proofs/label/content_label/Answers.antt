@@ -1,9 +1,10 @@
 -- There are no details of the content, which has a symbol, and the text below it is that
 -- of elements.
 use Rattle.std.proofs.Common.{sym, subst}
-use Rattle.std.specs.Prelude.{Some}
+use Rattle.std.specs.Prelude.{Some, IfSome}
 use Rattle.std.specs.Option.{option_copied}
-use Rattle.single_label.specs.{Captions.IsCaption, Labels.IsContentStop, Labels.ShowsContent, Labels.ShowsSymbol, Details.IsDetailsStop}
+use Rattle.single_label.specs.{Captions.IsCaption, Labels.AreBeside, Labels.AreContentDetails, Labels.IsContentStop, Labels.ShowsContent, Labels.ShowsSymbol, Details.IsDetailsStop}
+use Rattle.single_label.proofs.BesideLemmas.{content_beside, if_some}
 use Rattle.single_label.proofs.CaptionLemmas.{content_sound, content_stop_of}
 use Rattle.single_label.proofs.StopLemmas.{if_err, if_ok, no_details}
 use Rattle.single_label.proofs.label.content_label.Goals as goal
@@ -28,6 +29,19 @@ returns-clause-shown g c =
       caption_is = subst (IsCaption label c.args.text.now) (sym c.text_in.ensures) c.in_ok-caption.ensures.caption;
       shown = is;
     }) c.of_symbol.ensures.shown
+
+pub returns-clause-beside : goal.returns-clause-beside
+returns-clause-beside g c =
+    let label = c.args.label.now in
+    let options = c.args.options.now in
+    let text = c.args.text.now in
+    let content = c.args.content.now in
+    let caption : IsCaption label text (option_copied c.text_in.result) = subst (IsCaption label text) (sym c.text_in.ensures) c.in_ok-caption.ensures.caption in
+    let each = content_beside label options text content c.in-Ok.symbol (option_copied c.text_in.result) c.in-Ok.ensures.symbol caption in
+    if_ok (λ shown. IfSome (g.S.Shown.beside shown) (AreBeside label options (Some content) c.in-Ok.symbol))
+    (λ shown. IfSome (g.S.Shown.beside shown) (AreContentDetails label options text content)) c.of_symbol.result
+    (λ shown is. if_some (AreBeside label options (Some content) c.in-Ok.symbol) (AreContentDetails label options text content) (g.S.Shown.beside shown) each is)
+    c.of_symbol.ensures.beside
 
 pub returns-clause-refusal : goal.returns-clause-refusal
 returns-clause-refusal g c =
