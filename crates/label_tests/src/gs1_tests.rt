@@ -184,10 +184,10 @@ static LINKS: [(&[&str], &[u8], &[u8]); 5] = [
 #[test]
 fn draws_links(rt: HostRuntime) {
     let bytes = ["-f", "pbm", "-c", "bytes"];
-    for (words, elements, link) in LINKS.iter() {
+    for (row, (words, elements, link)) in LINKS.iter().enumerate() {
         assert!(rt;
             draw_alike(rt.alloc(), words, elements, &bytes, link),
-            "{words:?}"
+            "row {row}"
         );
     }
     let details = ran(

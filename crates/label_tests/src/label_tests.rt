@@ -30,9 +30,9 @@ static BITMAPS: [(&[&str], usize); 11] = [
 
 #[test]
 fn draws_bitmaps(rt: HostRuntime) {
-    for (words, length) in BITMAPS.iter() {
+    for (row, (words, length)) in BITMAPS.iter().enumerate() {
         let answer = ran(rt.alloc(), words, b"hello");
-        assert!(rt; answer.has_length(*length), "{words:?}");
+        assert!(rt; answer.has_length(*length), "row {row}");
     }
 }
 
@@ -174,10 +174,10 @@ static DOTS: [(&[&str], &[&str]); 6] = [
 
 #[test]
 fn draws_in_dots(rt: HostRuntime) {
-    for (words, others) in DOTS.iter() {
+    for (row, (words, others)) in DOTS.iter().enumerate() {
         assert!(rt;
             draw_alike(rt.alloc(), words, b"hello", others, b"hello"),
-            "{words:?}"
+            "row {row}"
         );
     }
 }
@@ -371,11 +371,11 @@ static ENDS: [(&[&str], &[u8]); 5] = [
 
 #[test]
 fn asks_printers(rt: HostRuntime) {
-    for (words, end) in ENDS.iter() {
+    for (row, (words, end)) in ENDS.iter().enumerate() {
         let answer = ran(rt.alloc(), words, b"hello");
         assert!(rt;
             answer.status == 0 && answer.label.ends_with(end),
-            "{words:?}"
+            "row {row}"
         );
     }
     let plain = ran(rt.alloc(), &["-f", "zpl"], b"hello");

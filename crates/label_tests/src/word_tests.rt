@@ -398,12 +398,12 @@ static WRONG_VALUES: [Wrong; 55] = [
 ];
 
 fn are_named(rt: &impl Abort, alloc: Global, rows: &[Wrong]) -> Result<(), QrError> {
-    for (words, head, text) in rows {
+    for (row, (words, head, text)) in rows.iter().enumerate() {
         let answer = ran(alloc, words, b"hello");
         let whole = format!(in alloc; "{head}{text}\ntry qrlabel --help")?;
         assert!(rt;
             answer.has_reported(2, &whole) && answer.unread == 5,
-            "{words:?}"
+            "row {row}"
         );
     }
     Ok(())
@@ -443,9 +443,9 @@ static HELPS: [(&[&str], &str); 3] = [
 
 #[test]
 fn shows_help(rt: HostRuntime) {
-    for (words, beginning) in HELPS.iter() {
+    for (row, (words, beginning)) in HELPS.iter().enumerate() {
         let answer = ran(rt.alloc(), words, b"hello");
-        assert!(rt; answer.status == 0 && answer.unread == 5, "{words:?}");
-        assert!(rt; answer.label.starts_with(beginning.as_bytes()), "{words:?}");
+        assert!(rt; answer.status == 0 && answer.unread == 5, "row {row}");
+        assert!(rt; answer.label.starts_with(beginning.as_bytes()), "row {row}");
     }
 }
