@@ -50,14 +50,16 @@ pub one_beside : (label : Label) (options : DrawOptions) (bytes content : List �
 one_beside label options bytes content symbol is given symbol_is details (inl (beside, are)) =
     inl (
       beside,
-      details ∷ [],
-      sym (append-nil details),
-      record {
-        content = content;
-        content_is = is;
-        data_is = given;
-        shown = inl (record { symbol = symbol; is_symbol = symbol_is; drawing = details; shown = inl (refl, are); drawings_are = refl });
-      },
+      (
+        details ∷ [],
+        sym (append-nil details),
+        record {
+          content = content;
+          content_is = is;
+          data_is = given;
+          shown = inl (record { symbol = symbol; is_symbol = symbol_is; drawing = details; shown = inl (refl, are); drawings_are = refl });
+        },
+      ),
     )
 one_beside label options bytes content symbol is given symbol_is details (inr none) = inr none
 
@@ -65,6 +67,6 @@ one_beside label options bytes content symbol is given symbol_is details (inr no
 pub together_beside : (label : Label) (options : DrawOptions) (bytes content : List ℕ) → IsContent label.trims bytes content → IsLabelData label content →
     IsStopAs label.content label.symbol content (Fault (Symbol DataTooLong)) → (details : List ℕ) →
     AreTogetherBeside label options content details → AreDetailsBeside label (λ other. ShowsMessage other options) bytes details
-together_beside label options bytes content is given long details (inl (beside, all, joined, together)) =
-    inl (beside, all, joined, record { content = content; content_is = is; data_is = given; shown = inr (long, together) })
+together_beside label options bytes content is given long details (inl (beside, (all, joined, together))) =
+    inl (beside, (all, joined, record { content = content; content_is = is; data_is = given; shown = inr (long, together) }))
 together_beside label options bytes content is given long details (inr none) = inr none
