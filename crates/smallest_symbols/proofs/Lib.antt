@@ -21,7 +21,6 @@ pub mod Shorter
 pub mod Slices
 pub mod FewestCuts
 pub mod BestCuts
-pub mod PieceFrames
 pub mod TextPieces
 pub mod TextCuts
 pub mod Joined

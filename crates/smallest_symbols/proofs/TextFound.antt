@@ -1,7 +1,7 @@
 -- What is drawn of a choice is the symbol that the options ask for.
 use Rattle.std.proofs.Common.{◌≡◌, ℕ, ◌+◌, ◌-◌, ◌<◌, ◌≤◌, Bool, true, false, List, length, pos, ℤ}
 use Rattle.std.proofs.Common.{refl, sym, ap, subst, ◌∙◌, arith, inl, inr}
-use Rattle.std.specs.Prelude.{All, None, Some, chars, nat_abs}
+use Rattle.std.specs.Prelude.{All, None, Option, Some, chars, nat_abs}
 use Rattle.std.specs.Str.{IsUtf8}
 use Rattle.std.proofs.lemmas.Option.{same_Some}
 use Rattle.std.proofs.lemmas.Bool.{cases_lt}
@@ -12,7 +12,7 @@ use Rattle.qrcode_base.specs.declared.types.Version.{Version}
 use Rattle.qrcode_base.specs.declared.types.errors.QrError.{QrError}
 use Rattle.qrcode_base.specs.declared.types.errors.QrError.TheVariants.{DataTooLong, InvalidVersion}
 use Rattle.qrcode_base.specs.declared.types.errors.QrError.TheVariants.{OutOfMemory}
-use Rattle.qrcode_bits.specs.Frame.{front_of}
+use Rattle.qrcode_bits.specs.Frame.{Header, front_of, header_bits}
 use Rattle.qrcode_bits.specs.Plans.{micro, normal, normal_from}
 use Rattle.qrcode_bits.specs.Stream.{Stream}
 use Rattle.qrcode_bits.specs.declared.bits.front.Content.TheVariants.{Text}
@@ -21,20 +21,18 @@ use Rattle.qrcode_core.specs.Headline.{Reads, reading_of}
 use Rattle.qrcode_core.specs.Options.{HasVersions}
 use Rattle.qrcode_core.specs.declared.options.SymbolOptions.{SymbolOptions}
 use Rattle.qrcode_grid.specs.declared.canvas.MaskPattern.{MaskPattern}
-use Rattle.character_sets.specs.Reading.{Part, has_kanji, has_no_designator}
+use Rattle.character_sets.specs.Reading.{Part}
 use Rattle.text_plans.specs.Costs.{AreLeast, AreTextParts, bits_of_parts}
 use Rattle.smallest_symbols.specs.Holding.{IsGreatestLevel, IsLevelAsked}
 use Rattle.smallest_symbols.specs.TextChoices.{HasNoChoice, IsMicroChoice, IsTextChoice}
-use Rattle.smallest_symbols.specs.TextFrames.{IsPartSpelled, NoPartsFit, NoVersionFits, PartsFit}
-use Rattle.smallest_symbols.specs.TextFrames.{part_spellings}
+use Rattle.smallest_symbols.specs.TextFrames.{IsPartSpelled, NoVersionFits, PartsFit, headed_bits}
 use Rattle.smallest_symbols.specs.TextHeadline.{HoldsParts, IsSmallestInRange, IsSmallestText}
 use Rattle.smallest_symbols.specs.TextHeadline.{IsStrongestOrSmallest, IsStrongestText}
 use Rattle.smallest_symbols.specs.TextHeadline.{IsTextRefused, NoGridReadsText}
 use Rattle.smallest_symbols.specs.TextHeadline.{TellsTextReading, TextReading}
-use Rattle.smallest_symbols.proofs.TextFrames.{all_spelled, counted, frame_fits, length-parts}
-use Rattle.smallest_symbols.proofs.TextFrames.{no_frame}
+use Rattle.smallest_symbols.proofs.TextFrames.{HasRoom, all_spelled, counted, frame_fits}
+use Rattle.smallest_symbols.proofs.TextFrames.{length-headed, no_frame, text_sound}
 use Rattle.smallest_symbols.proofs.Utf8Frames.{utf8_parts}
-use Rattle.smallest_symbols.proofs.Valid.{parts_sound}
 use Rattle.smallest_symbols.proofs.TextHeadline.{smallest_symbol}
 use Rattle.smallest_symbols.proofs.TextVersions.{long_micro, long_unfit}
 use Rattle.smallest_symbols.proofs.TextLevels.{at_least, none_beyond, stronger_choice}
@@ -50,10 +48,11 @@ pub utf8_no_smaller : (kind : ℕ → Version) (bytes : List ℕ) (level : EcLev
 utf8_no_smaller kind bytes level grid other number bits mask utf8 best reads =
     let w = utf8_parts (kind number) level bytes bits reads.frame utf8 reads.framed in
     let mine = best.reads.framed.parts in
-    let version = ap (λ (r : TextReading). r.version) best.says in
+    let version = ap (λ (r : TextReading). bits_of_parts r.version mine) best.says in
+    let header = ap (λ (r : TextReading). length (header_bits r.header)) best.says in
     let payload = ap (λ (r : TextReading). r.payload) best.says in
     let long : best.payload ≡ bits_of_parts (kind best.number) mine =
-    sym payload ∙ ((frame_fits best.reads.framed).1 ∙ ap (λ (v : Version). bits_of_parts v mine) version) in (
+    omega (arith, payload, (frame_fits best.reads.framed).1, header, version) in (
       elim (cases_lt number best.number) [ inl below ↦ absurd (best.smallest number below w.0 w.1) | inr past ↦ past ],
       λ same.
           let written = subst (λ (n : ℕ). AreTextParts (kind n) (chars bytes) w.0) same w.1.written in
@@ -64,72 +63,53 @@ utf8_no_smaller kind bytes level grid other number bits mask utf8 best reads =
 
 -- ---- Streams
 
-spell : (v : Version) (l : EcLevel) (text : List ℕ) (parts : List Part) → PartsFit v l text parts →
-    length (part_spellings v parts) ≡ bits_of_parts v parts
-spell v l text parts fits = length-parts v parts (parts_sound (has_no_designator parts) (has_kanji parts) None parts text fits.written.read).0
+-- Parts that fit after a header or without one can be spelled.
+pub fits_spelled : (v : Version) (l : EcLevel) (header : Option Header) (text : List ℕ) (parts : List Part) → AreTextParts v text parts →
+    HasRoom v l header parts → All (λ part. IsPartSpelled part v) parts
+fits_spelled v l header text parts written room =
+    let few : bits_of_parts v parts ≤ room.0 = omega (arith, length-headed v header text parts written, room.2) in
+    all_spelled v parts written.had (text_sound v text parts written) (counted v l room.0 parts room.1 few)
 
--- Parts that fit can be spelled.
-pub fits_spelled : (v : Version) (l : EcLevel) (text : List ℕ) (parts : List Part) → PartsFit v l text parts → All (λ part. IsPartSpelled part v) parts
-fits_spelled v l text parts fits =
-    all_spelled v parts fits.written.had (parts_sound (has_no_designator parts) (has_kanji parts) None parts text fits.written.read).0
-    (counted v l fits.limit parts fits.has_level fits.within)
-
-module _ (v : Version) (l : EcLevel) (text : List ℕ) (parts : List Part) (stream : Stream) (fits : PartsFit v l text parts)
-    (bits_are : stream.bits ≡ part_spellings v parts) (version_is : stream.version ≡ v) where
-  size : length stream.bits ≡ bits_of_parts v parts
-  size = ap (λ (bits : List Bool). length bits) bits_are ∙ spell v l text parts fits
-
-  known : (limit : ℕ) → capacity stream.version l ≡ Some limit → limit ≡ fits.limit
-  known limit h = let e : capacity v l ≡ Some limit = subst (λ (u : Version). capacity u l ≡ Some limit) version_is h in
-      same_Some limit fits.limit (sym e ∙ fits.has_level)
-
-  -- The stream of parts that fit fails only with `OutOfMemory`,
+module _ (v : Version) (l : EcLevel) (header : Option Header) (parts : List Part) (room : HasRoom v l header parts) (stream : Stream)
+    (bits_are : stream.bits ≡ headed_bits v header parts) (version_is : stream.version ≡ v) where
+  -- Their stream fails only with `OutOfMemory`,
   pub stream_refused : (e : QrError) → IsStreamRefusal stream l e → e ≡ OutOfMemory
   stream_refused (InvalidVersion w named) r =
-      let e : None ≡ Some fits.limit = sym r.2 ∙ (ap (λ (u : Version). capacity u l) version_is ∙ fits.has_level) in absurd (cc)
-  stream_refused DataTooLong r = absurd (omega (arith, known r.0 r.1, r.2, size, fits.within))
+      let e : None ≡ Some room.0 = sym r.2 ∙ (ap (λ (u : Version). capacity u l) version_is ∙ room.1) in absurd (cc)
+  stream_refused DataTooLong r =
+      let here : capacity v l ≡ Some r.0 = subst (λ (u : Version). capacity u l ≡ Some r.0) version_is r.1 in
+      let same = same_Some room.0 r.0 (sym room.1 ∙ here) in
+      absurd (omega (arith, same, r.2, ap (λ (bits : List Bool). length bits) bits_are, room.2))
   stream_refused OutOfMemory r = refl
   stream_refused other r = absurd r
 
-  -- and its symbol holds the parts.
-  pub stream_holds : (symbol : DrawnSymbol) → HoldsStream stream l symbol → HoldsParts parts v l symbol
+  -- and its symbol holds the header and the parts.
+  pub stream_holds : (symbol : DrawnSymbol) → HoldsStream stream l symbol → HoldsParts header parts v l symbol
   stream_holds symbol h = record {
     limit = h.limit;
     limit_is = subst (λ (u : Version). capacity u l ≡ Some h.limit) version_is h.limit_is;
-    holds = rw (← size, ← bits_are, ← version_is) h.holds;
+    holds = rw (← bits_are, ← version_is) h.holds;
   }
 
 -- ---- A symbol of a kind of versions
 
--- The symbol of the least parts in the smallest version.
-pub drawn_smallest : (kind : ℕ → Version) (text : List ℕ) (level : EcLevel) (number : ℕ) (parts : List Part) (symbol : DrawnSymbol) →
-    AreLeast (kind number) text parts → PartsFit (kind number) level text parts →
-    ((smaller : ℕ) → smaller < number → NoPartsFit (kind smaller) level text) → HoldsParts parts (kind number) level symbol →
-    (best : IsSmallestText kind text level symbol.modules) × (best.number ≡ number) × TellsTextReading symbol
-drawn_smallest kind text level number parts symbol least fits smallest held =
-    smallest_symbol kind text level number parts least smallest symbol
-    (record { written = fits.written; limit = held.limit; has_level = held.limit_is; within = within }) held.holds
-  where
-    within : bits_of_parts (kind number) parts ≤ held.limit
-    within = let same : fits.limit ≡ held.limit = cc (fits.has_level, held.limit_is) in omega (arith, same, fits.within)
-
 module _ (least : ℕ) (text : List ℕ) (level : EcLevel) (limit number : ℕ) (parts : List Part) (symbol : DrawnSymbol) where
   -- The symbol of a choice is the smallest in the versions,
-  pub range_smallest : IsTextChoice least text level limit number parts → HoldsParts parts (normal number) level symbol →
+  pub range_smallest : IsTextChoice least text level limit number parts → HoldsParts None parts (normal number) level symbol →
       (found : IsSmallestInRange text level least limit symbol.modules) × (found.best.number ≡ number - least) × TellsTextReading symbol
   range_smallest choice held =
       let same : number ≡ least + (number - least) = omega (arith, choice.from) in
-      let w = drawn_smallest (normal_from least) text level (number - least) parts symbol
+      let w = smallest_symbol (normal_from least) text level (number - least) parts
       (subst (λ (n : ℕ). AreLeast (normal n) text parts) same choice.are_least)
+      (λ n below. choice.smallest (least + n) (omega arith) (omega (arith, below))) symbol
       (subst (λ (n : ℕ). PartsFit (normal n) level text parts) same choice.fits)
-      (λ n below. choice.smallest (least + n) (omega arith) (omega (arith, below)))
-      (subst (λ (n : ℕ). HoldsParts parts (normal n) level symbol) same held) in
+      (subst (λ (n : ℕ). HoldsParts None parts (normal n) level symbol) same held) in
       (record { best = w.0; up_to = omega (arith, w.1, choice.up_to) }, w.1, w.2)
 
 -- and at the greatest level the strongest.
 pub range_strongest : (least : ℕ) (text : List ℕ) (asked level : EcLevel) (limit number bits : ℕ) (parts : List Part) (symbol : DrawnSymbol) →
     IsTextChoice least text asked limit number parts → bits ≡ bits_of_parts (normal number) parts → IsGreatestLevel bits number level →
-    HoldsParts parts (normal number) level symbol → IsStrongestText text asked least limit symbol.modules × TellsTextReading symbol
+    HoldsParts None parts (normal number) level symbol → IsStrongestText text asked least limit symbol.modules × TellsTextReading symbol
 range_strongest least text asked level limit number bits parts symbol choice is g held =
     let w = range_smallest least text level limit number parts symbol (stronger_choice least text asked limit number bits parts choice is level g) held in (
       record {
@@ -149,9 +129,9 @@ range_strongest least text asked level limit number bits parts symbol choice is 
 
 -- The symbol of a Micro choice is the smallest.
 pub micro_smallest : (text : List ℕ) (level : EcLevel) (number : ℕ) (parts : List Part) (symbol : DrawnSymbol) → IsMicroChoice text level number parts →
-    HoldsParts parts (micro number) level symbol → IsSmallestText micro text level symbol.modules × TellsTextReading symbol
+    HoldsParts None parts (micro number) level symbol → IsSmallestText micro text level symbol.modules × TellsTextReading symbol
 micro_smallest text level number parts symbol choice held =
-    let w = drawn_smallest micro text level number parts symbol choice.chosen.are_least choice.chosen.fits choice.smallest held in (w.0, w.2)
+    let w = smallest_symbol micro text level number parts choice.chosen.are_least choice.smallest symbol choice.chosen.fits held in (w.0, w.2)
 
 -- ---- Options
 
@@ -164,11 +144,11 @@ module _ (least : ℕ) (text : List ℕ) (asked level : EcLevel) (limit number b
 
   -- and the symbol is the strongest one, or the smallest.
   pub level_found : (strongest : Bool) → IsLevelAsked strongest asked bits number level → (symbol : DrawnSymbol) →
-      HoldsParts parts (normal number) level symbol → IsStrongestOrSmallest strongest text asked least limit symbol.modules × TellsTextReading symbol
+      HoldsParts None parts (normal number) level symbol → IsStrongestOrSmallest strongest text asked least limit symbol.modules × TellsTextReading symbol
   level_found true g symbol held = range_strongest least text asked level limit number bits parts symbol choice is g held
   level_found false e symbol held =
       let w = range_smallest least text asked limit number parts symbol choice
-      (subst (λ (l : EcLevel). HoldsParts parts (normal number) l symbol) e held) in (w.0, w.2)
+      (subst (λ (l : EcLevel). HoldsParts None parts (normal number) l symbol) e held) in (w.0, w.2)
 
 -- A text of more than 7089 characters fits no version,
 pub none_long : (least : ℕ) (text : List ℕ) (level : EcLevel) (limit : ℕ) → 7089 < length text → NoVersionFits (normal_from least) level text limit

@@ -15,13 +15,15 @@ use Rattle.std.proofs.lemmas.List.{length-map, same_lists, Elements.Contains-get
 use Rattle.std.proofs.lemmas.List.Sorted.{Contains-permutation, IsPermutation-refl}
 use Rattle.std.proofs.lemmas.List.Sorted.{IsPermutation-sym, IsPermutation-trans}
 use Rattle.std.proofs.lemmas.List.Sorted.{length_permutation}
+use Rattle.std.proofs.lemmas.Option.{same_Some}
 use Rattle.std.proofs.lemmas.Str.{encodes-chars}
 use Rattle.qrcode_base.specs.Symbols.{IsNormalNumber}
 use Rattle.qrcode_base.specs.declared.types.Color.{Color}
 use Rattle.qrcode_base.specs.declared.types.EcLevel.{EcLevel}
 use Rattle.qrcode_base.specs.declared.types.errors.QrError.{QrError}
 use Rattle.qrcode_base.specs.declared.types.errors.QrError.TheVariants.{DataTooLong, OutOfMemory}
-use Rattle.qrcode_bits.specs.Frame.{Header, IsTotal}
+use Rattle.qrcode_bits.specs.Frame.{Header, IsTotal, header_bits}
+use Rattle.qrcode_bits.proofs.Reading.{length-header}
 use Rattle.qrcode_core.specs.Sequence.{header_at, parts_at}
 use Rattle.qrcode_core.proofs.Sequences.{length-parts}
 use Rattle.qrcode_base.specs.Symbols.{capacity}
@@ -35,7 +37,8 @@ use Rattle.text_plans.specs.declared.rules.Manner.TheVariants.{Ascii, Paired, De
 use Rattle.text_plans.proofs.AllWays.{reads_so}
 use Rattle.smallest_symbols.specs.TextParts.{HasNoPartChoice, IsSomePartTooLongIn}
 use Rattle.smallest_symbols.specs.TextParts.{IsTextPartTooLong, PartsFitAfterHeader}
-use Rattle.smallest_symbols.specs.TextPieces.{IsSmallestPartUpTo, IsSmallestTextPart, PieceReading}
+use Rattle.smallest_symbols.specs.TextHeadline.{TextReading}
+use Rattle.smallest_symbols.specs.TextPieces.{IsSmallestPartUpTo, IsSmallestTextPart}
 use Rattle.smallest_symbols.specs.TextMessages.{AreSmallestTextSymbols, AreSymbolsIn, FindsPiece}
 use Rattle.smallest_symbols.specs.TextMessages.{HasNoSymbols, HasNoSymbolsIn}
 use Rattle.smallest_symbols.specs.TextMessages.{HaveOneTextMessage, IsFirstManner, IsSmallestPartAt}
@@ -43,18 +46,18 @@ use Rattle.smallest_symbols.specs.TextMessages.{IsTextSequenceRefusal, ReadsText
 use Rattle.smallest_symbols.specs.TextMessages.{joined_parts}
 use Rattle.smallest_symbols.specs.TextParts.{IsSomeTextPartTooLong, text_of_part}
 use Rattle.smallest_symbols.proofs.Joined.{join_all}
-use Rattle.smallest_symbols.proofs.PieceFrames.{piece_payload}
 use Rattle.smallest_symbols.proofs.TextCuts.{chars_whole}
-use Rattle.smallest_symbols.proofs.TextPieces.{one_piece_reading}
+use Rattle.smallest_symbols.proofs.TextFrames.{frame_fits}
+use Rattle.smallest_symbols.proofs.TextHeadline.{one_text_reading}
 
 -- ---- One text
 
 -- a grid is read as one piece with one header
 one_piece : (grid : List Color) (g h : Header) (a b : List ℕ) (m n : List Part) → FindsPiece grid g a m → FindsPiece grid h b n → (g ≡ h) × (a ≡ b)
 one_piece grid g h a b m n p q =
-    let same = one_piece_reading grid p.reading q.reading p.reads q.reads in (
-      sym p.header_is ∙ (ap (λ (r : PieceReading). r.header) same ∙ q.header_is),
-      sym p.piece_is ∙ (ap (λ (r : PieceReading). r.text) same ∙ q.piece_is),
+    let same = one_text_reading grid p.reading q.reading p.reads q.reads in (
+      same_Some g h (sym p.header_is ∙ (ap (λ (r : TextReading). r.header) same ∙ q.header_is)),
+      sym p.piece_is ∙ (ap (λ (r : TextReading). r.text) same ∙ q.piece_is),
     )
 
 -- the piece at a place is the same in two readings
@@ -186,9 +189,9 @@ symbols_of manner message cuts level limit total done grids utf8 rise places few
             record {
               reading = symbol.small.best.reading;
               reads = symbol.small.best.reads;
-              header_is = ap (λ (r : PieceReading). r.header) symbol.small.best.says
-                  ∙ ap (λ (bytes : List ℕ). header_at (i + 1) (length grids) bytes) bytes;
-              piece_is = ap (λ (r : PieceReading). r.text) symbol.small.best.says ∙ piece i inside;
+              header_is = ap (λ (r : TextReading). r.header) symbol.small.best.says
+                  ∙ ap (λ (bytes : List ℕ). Some (header_at (i + 1) (length grids) bytes)) bytes;
+              piece_is = ap (λ (r : TextReading). r.text) symbol.small.best.says ∙ piece i inside;
               parts_are = symbol.parts_are;
             };
         text_is = whole;
@@ -244,14 +247,15 @@ smallest_fits : (manner : Manner) (header : Header) (text : List ℕ) (level : E
     PartsFitAfterHeader manner (normal best.number) level text best.reads.framed.parts
 smallest_fits manner header text level grid best =
     let f = best.reads.framed in
-    let version : best.reading.version ≡ normal best.number = ap (λ (r : PieceReading). r.version) best.says in
-    let same : best.reading.level ≡ level = ap (λ (r : PieceReading). r.level) best.says in
+    let version : best.reading.version ≡ normal best.number = ap (λ (r : TextReading). r.version) best.says in
+    let same : best.reading.level ≡ level = ap (λ (r : TextReading). r.level) best.says in
+    let ahead = ap (λ (r : TextReading). length (header_bits r.header)) best.says ∙ length-header header in
     record {
       written = best.least.written;
       limit = f.limit;
       has_level = subst (λ (l : EcLevel). capacity (normal best.number) l ≡ Some f.limit) same
           (subst (λ (v : Version). capacity v best.reading.level ≡ Some f.limit) version f.limit_is);
-      within = subst (λ (v : Version). 20 + bits_of_parts v f.parts ≤ f.limit) version (omega (arith, piece_payload f, f.fits));
+      within = subst (λ (v : Version). 20 + bits_of_parts v f.parts ≤ f.limit) version (omega (arith, (frame_fits f).1, ahead, f.fits));
     }
 
 -- A part that has its symbol is not too long.

@@ -24,8 +24,9 @@ use Rattle.text_plans.specs.declared.rules.Manner.TheVariants.{Designated}
 use Rattle.text_plans.proofs.Starts.{designated_parts}
 use Rattle.smallest_symbols.proofs.Utf8Frames.{utf8_parts}
 use Rattle.smallest_symbols.specs.TextParts.{IsTextPartTooLong, PartsFitAfterHeader}
-use Rattle.smallest_symbols.specs.TextPieces.{IsSmallestTextPart, NoGridReadsPiece, PieceReading}
-use Rattle.smallest_symbols.proofs.PieceFrames.{no_piece_frame, piece_payload}
+use Rattle.smallest_symbols.specs.TextHeadline.{TextReading}
+use Rattle.smallest_symbols.specs.TextPieces.{IsSmallestTextPart, NoGridReadsPiece}
+use Rattle.smallest_symbols.proofs.TextFrames.{frame_fits, no_piece_frame}
 
 -- Where no parts of a manner fit after a header, no grid is read as the text after one by such parts.
 pub no_grid : (manner : Manner) (text : List ℕ) (level : EcLevel) (limit : ℕ) → IsTextPartTooLong manner text level limit →
@@ -82,10 +83,11 @@ pub utf8_no_smaller : (bytes : List ℕ) (level : EcLevel) (grid other : List Co
 utf8_no_smaller bytes level grid other mine theirs number bits mask utf8 best reads =
     let w = headed_parts (normal number) level theirs bytes bits reads.frame reads.framed utf8 in
     let parts = best.reads.framed.parts in
-    let version = ap (λ (r : PieceReading). r.version) best.says in
-    let payload = ap (λ (r : PieceReading). r.payload) best.says in
+    let version = ap (λ (r : TextReading). bits_of_parts r.version parts) best.says in
+    let ahead = ap (λ (r : TextReading). length (header_bits r.header)) best.says ∙ length-header mine in
+    let payload = ap (λ (r : TextReading). r.payload) best.says in
     let long : best.payload ≡ 20 + bits_of_parts (normal best.number) parts =
-    sym payload ∙ (piece_payload best.reads.framed ∙ ap (λ (v : Version). 20 + bits_of_parts v parts) version) in (
+    omega (arith, payload, (frame_fits best.reads.framed).1, ahead, version) in (
       elim (cases_lt number best.number) [ inl below ↦ absurd (best.smallest number below w.0 w.1) | inr past ↦ past ],
       λ same.
           let written = subst (λ (n : ℕ). ArePartsIn Designated (normal n) (chars bytes) w.0) same w.1.written in

@@ -8,6 +8,5 @@ pub mod TextHeadline
 pub mod MicroTexts
 pub mod TextParts
 pub mod TextCuts
-pub mod PieceFrames
 pub mod TextPieces
 pub mod TextMessages

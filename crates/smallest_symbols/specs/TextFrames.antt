@@ -1,14 +1,15 @@
--- The data bits of a symbol that is read as a text: designators and segments, terminator and
--- padding (ISO/IEC 18004:2006, "Data encodation" and "Extended Channel Interpretation (ECI) mode").
+-- The data bits of a symbol that is read as a text: the header of a symbol of a sequence,
+-- designators and segments, terminator and padding (ISO/IEC 18004:2006, "Structured Append", "Data
+-- encodation" and "Extended Channel Interpretation (ECI) mode").
 use Rattle.std.specs.Prelude.{◌≡◌, ◌≢◌, ℕ, ◌^◌, ◌<◌, ◌≤◌, Bool, List, [], ◌++◌, length, flat_map}
-use Rattle.std.specs.Prelude.{Some, All}
+use Rattle.std.specs.Prelude.{Option, Some, All}
 use Rattle.qrcode_base.specs.Modes.{characters, count_width}
 use Rattle.qrcode_base.specs.Numbers.{number_bits}
 use Rattle.qrcode_base.specs.Symbols.{capacity}
 use Rattle.qrcode_base.specs.declared.types.EcLevel.{EcLevel}
 use Rattle.qrcode_base.specs.declared.types.Version.{Version}
 use Rattle.qrcode_base.specs.declared.types.Version.TheVariants.{Normal, Micro}
-use Rattle.qrcode_bits.specs.Frame.{tail}
+use Rattle.qrcode_bits.specs.Frame.{HasHeader, Header, header_bits, tail}
 use Rattle.qrcode_bits.specs.Spelling.{IsSpellable, piece_of, spelling}
 use Rattle.qrcode_bits.specs.Stream.{Stream}
 use Rattle.character_sets.specs.Reading.{Part, designator, segment}
@@ -26,6 +27,10 @@ part_spelling version (segment mode bytes) = spelling version (piece_of mode byt
 -- The bits of parts, concatenated.
 abbrev pub part_spellings : Version → List Part → List Bool
 part_spellings version parts = flat_map (part_spelling version) parts
+
+-- The bits of a header, if there is one, and after them those of parts.
+abbrev pub headed_bits : Version → Option Header → List Part → List Bool
+headed_bits version header parts = header_bits header ++ part_spellings version parts
 
 -- The number of characters of a segment fits its field.
 abbrev pub IsCounted : Version → Part → Type 0
@@ -48,19 +53,21 @@ pub record SpellsParts (old new : Stream) (parts : List Part) : Type 0 where
 
 -- ---- Frames
 
--- A text frame is all data bits of a symbol, as many as its capacity: the bits of parts that the
--- version can have and that are read as the text, terminator and padding. The payload is the number
--- of bits before the terminator.
-pub record IsTextFrame (version : Version) (level : EcLevel) (text : List ℕ) (payload : ℕ)
-    (bits : List Bool) : Type 0 where
+-- A text frame is all data bits of a symbol, as many as its capacity: the bits of a header, if it
+-- is a symbol of a sequence, and of parts, both of which the version can have, terminator and
+-- padding. The parts are read as the text. The payload is the number of bits before the terminator,
+-- with the 20 of a header.
+pub record IsTextFrame (version : Version) (level : EcLevel) (header : Option Header)
+    (text : List ℕ) (payload : ℕ) (bits : List Bool) : Type 0 where
   pub limit : ℕ
   pub parts : List Part
   pub limit_is : capacity version level ≡ Some limit
+  pub has_header : HasHeader version header
   pub written : AreTextParts version text parts
   pub counted : All (IsCounted version) parts
-  pub payload_is : payload ≡ length (part_spellings version parts)
+  pub payload_is : payload ≡ length (headed_bits version header parts)
   pub fits : payload ≤ limit
-  pub bits_are : bits ≡ part_spellings version parts ++ tail version limit payload
+  pub bits_are : bits ≡ headed_bits version header parts ++ tail version limit payload
 
 -- ---- Which versions a text fits
 

@@ -2,7 +2,7 @@
 -- finds in it (ISO/IEC 18004:2006, encode procedure and reference decode algorithm). The promise is
 -- `IsSmallestText`, near the end of the file.
 use Rattle.std.specs.Prelude.{◌≡◌, ◌≢◌, ℕ, ◌-◌, ◌<◌, ◌≤◌, nat_abs, pos, Bool, true, false, List}
-use Rattle.std.specs.Prelude.{◌++◌, length, Some}
+use Rattle.std.specs.Prelude.{◌++◌, length, Option, None, Some}
 use Rattle.qrcode_base.specs.Symbols.{block_sizes, capacity, column_of_level}
 use Rattle.qrcode_base.specs.declared.symbols.TheConstants.{LONGEST_DATA}
 use Rattle.qrcode_base.specs.declared.types.Color.{Color}
@@ -15,7 +15,7 @@ use Rattle.qrcode_base.specs.declared.types.errors.QrError.TheVariants.{DataTooL
 use Rattle.qrcode_base.specs.declared.types.errors.QrError.TheVariants.{InvalidResourceLimits}
 use Rattle.qrcode_base.specs.declared.types.errors.QrError.TheVariants.{InvalidVersion}
 use Rattle.qrcode_bits.specs.Plans.{micro, normal_from}
-use Rattle.qrcode_bits.specs.Frame.{tail}
+use Rattle.qrcode_bits.specs.Frame.{Header, tail}
 use Rattle.qrcode_core.specs.Symbol.{DrawnSymbol, IsSymbolOfBits}
 use Rattle.qrcode_core.specs.Headline.{Carries, HasBlocksApart}
 use Rattle.qrcode_core.specs.Options.{HasVersions}
@@ -26,19 +26,20 @@ use Rattle.qrcode_grid.specs.Masks.{HasFunctionalColors}
 use Rattle.qrcode_grid.specs.Penalty.{IsFirstLeastMask}
 use Rattle.qrcode_grid.specs.declared.canvas.MaskPattern.{MaskPattern}
 use Rattle.character_sets.specs.Reading.{Part}
-use Rattle.text_plans.specs.Costs.{AreLeast, bits_of_parts}
+use Rattle.text_plans.specs.Costs.{AreLeast}
 use Rattle.smallest_symbols.specs.declared.micro_texts.MicroTextError.{MicroTextError}
 use Rattle.smallest_symbols.specs.declared.micro_texts.MicroTextError.TheVariants.{Unwritable}
 use Rattle.smallest_symbols.specs.declared.micro_texts.MicroTextError.TheVariants.{Symbol}
 use Rattle.smallest_symbols.specs.MicroTexts.{HasMicroParts}
-use Rattle.smallest_symbols.specs.TextFrames.{IsTextFrame, NoPartsFit, NoVersionFits}
-use Rattle.smallest_symbols.specs.TextFrames.{part_spellings}
+use Rattle.smallest_symbols.specs.TextFrames.{IsTextFrame, NoPartsFit, NoVersionFits, headed_bits}
 
 -- ---- What a grid says
 
--- What a reader of texts finds in a grid: the text as its characters in Unicode, the version, level
--- and mask of the symbol, and the payload, which is the number of bits before the terminator.
+-- What a reader of texts finds in a grid: the header, if it is one of a sequence; the text as its
+-- characters in Unicode; the version, level and mask of the symbol; and the payload, which is the
+-- number of bits before the terminator.
 pub record TextReading : Type 0 where
+  pub header : Option Header
   pub text : List ℕ
   pub version : Version
   pub level : EcLevel
@@ -47,8 +48,9 @@ pub record TextReading : Type 0 where
 
 -- The reading with these parts.
 abbrev pub text_reading_of :
-    Version → EcLevel → MaskPattern → List ℕ → ℕ → TextReading
-text_reading_of version level mask text payload = record {
+    Version → EcLevel → MaskPattern → Option Header → List ℕ → ℕ → TextReading
+text_reading_of version level mask header text payload = record {
+  header = header;
   text = text;
   version = version;
   level = level;
@@ -56,14 +58,15 @@ text_reading_of version level mask text payload = record {
   payload = payload;
 }
 
--- A reader of texts finds this in a grid: the grid carries a text frame of the text, in the
--- version, at the level and under the mask.
+-- A reader of texts finds this in a grid: the grid carries a text frame of the text, after the
+-- header if there is one, in the version, at the level and under the mask.
 pub record ReadsText (grid : List Color) (reading : TextReading) : Type 0 where
   pub frame : List Bool
   pub carries : Carries grid reading.version reading.level reading.mask frame
-  pub framed : IsTextFrame reading.version reading.level reading.text reading.payload frame
+  pub framed : IsTextFrame reading.version reading.level reading.header reading.text
+      reading.payload frame
 
--- No grid is read as a text in two ways.
+-- No grid is read as a text in two ways, nor as one after a header and as one without.
 abbrev pub HaveOneTextReading : Type 0
 HaveOneTextReading =
     (grid : List Color) (first second : TextReading) →
@@ -76,13 +79,14 @@ TellsTextReading symbol =
     (symbol.version ≡ reading.version) × (symbol.level ≡ reading.level)
     × (symbol.mask ≡ reading.mask)
 
--- Every other grid that is read as another text, at the same version and level, differs from this
--- grid: in some block they differ in more codewords than the block has correction codewords.
+-- Every other grid that is read as another text, or after another header or none, at the same
+-- version and level, differs from this grid: in some block they differ in more codewords than the
+-- block has correction codewords.
 abbrev pub IsFarFromOtherTexts :
     (grid : List Color) (reading : TextReading) → ReadsText grid reading → Type 0
 IsFarFromOtherTexts grid r f =
     (other : List Color) (s : TextReading) (g : ReadsText other s) →
-    s.version ≡ r.version → s.level ≡ r.level → s.text ≢ r.text →
+    s.version ≡ r.version → s.level ≡ r.level → (s.header ≡ r.header → s.text ≡ r.text → ⊥) →
     let n = f.carries.blocks.correction in
     let sizes = block_sizes f.carries.blocks in
     (block : ℕ) × (block < length sizes) ×
@@ -91,52 +95,54 @@ IsFarFromOtherTexts grid r f =
 
 -- ---- No smaller symbol
 
--- Every grid that is read as the text at the level has the same or a greater version number of this
--- kind, and in the same version at least as many payload bits.
+-- Every grid that is read as the text at the level, without a header, has the same or a greater
+-- version number of this kind, and in the same version at least as many payload bits.
 abbrev pub NoTextIsSmaller : (ℕ → Version) → List ℕ → EcLevel → ℕ → ℕ → Type 0
 NoTextIsSmaller kind text level number payload =
     (grid : List Color) (other bits : ℕ) (mask : MaskPattern) →
-    ReadsText grid (text_reading_of (kind other) level mask text bits) →
+    ReadsText grid (text_reading_of (kind other) level mask None text bits) →
     (number ≤ other) × (other ≡ number → payload ≤ bits)
 
--- No grid of a version of a kind, up to a number, is read as the text at the level.
+-- No grid of a version of a kind, up to a number, is read as the text at the level, without a
+-- header.
 abbrev pub NoGridReadsText : (ℕ → Version) → List ℕ → EcLevel → ℕ → Type 0
 NoGridReadsText kind text level limit =
     (grid : List Color) (number payload : ℕ) (mask : MaskPattern) → number ≤ limit →
-    ReadsText grid (text_reading_of (kind number) level mask text payload) → ⊥
+    ReadsText grid (text_reading_of (kind number) level mask None text payload) → ⊥
 
 -- ---- The symbol of parts
 
--- The symbol of the bits of some parts, which terminator and padding follow.
-pub record HoldsParts (parts : List Part) (version : Version) (level : EcLevel)
-    (symbol : DrawnSymbol) : Type 0 where
+-- The symbol of the bits of a header, if there is one, and of some parts, which terminator and
+-- padding follow.
+pub record HoldsParts (header : Option Header) (parts : List Part) (version : Version)
+    (level : EcLevel) (symbol : DrawnSymbol) : Type 0 where
   pub limit : ℕ
   pub limit_is : capacity version level ≡ Some limit
   pub holds : IsSymbolOfBits
-      (part_spellings version parts ++ tail version limit (bits_of_parts version parts)) version
-      level symbol
+      (headed_bits version header parts
+      ++ tail version limit (length (headed_bits version header parts))) version level symbol
 
 -- ---- The smallest symbol
 
 -- The smallest symbol of a text at a level, among the versions of one kind, which gives the version
 -- of each number.
 --
--- A reader of texts finds the text at the level in it (`reads`), and nothing else: no other text,
--- version, level, mask or number of payload bits (`only`). Its functional modules have their
--- colours (`functional`). Of all parts that are read as the text its own take the fewest bits in
--- its version, and of those they are the fewest (`least`); none fit a smaller version (`smallest`).
--- So no grid that is read as the text at the level is smaller (`none_smaller`). The mask is the
--- first under which the grid has the least penalty (`best_mask`). Each block differs from every
--- other sound block of its length in more codewords than it has correction codewords (`apart`), and
--- every grid of the same version and level that is read as another text differs from this one by as
--- much in some block (`far`).
+-- A reader of texts finds the text at the level in it (`reads`), and nothing else: no header, and
+-- no other text, version, level, mask or number of payload bits (`only`). Its functional modules
+-- have their colours (`functional`). Of all parts that are read as the text its own take the fewest
+-- bits in its version, and of those they are the fewest (`least`); none fit a smaller version
+-- (`smallest`). So no grid that is read as the text at the level, without a header, is smaller
+-- (`none_smaller`). The mask is the first under which the grid has the least penalty (`best_mask`).
+-- Each block differs from every other sound block of its length in more codewords than it has
+-- correction codewords (`apart`), and every grid of the same version and level that is read as
+-- another text, or after a header, differs from this one by as much in some block (`far`).
 pub record IsSmallestText (kind : ℕ → Version) (text : List ℕ) (level : EcLevel)
     (grid : List Color) : Type 0 where
   pub number : ℕ
   pub mask : MaskPattern
   pub payload : ℕ
   pub reading : TextReading
-  pub says : reading ≡ text_reading_of (kind number) level mask text payload
+  pub says : reading ≡ text_reading_of (kind number) level mask None text payload
   pub reads : ReadsText grid reading
   pub only : (other : TextReading) → ReadsText grid other → other ≡ reading
   pub functional : HasFunctionalColors (kind number) level mask grid
@@ -162,7 +168,7 @@ pub record IsStrongestText (text : List ℕ) (asked : EcLevel) (least limit : �
   pub at_least : column_of_level asked ≤ column_of_level level
   pub found : IsSmallestInRange text level least limit grid
   pub as_small : (other : List Color) (number payload : ℕ) (mask : MaskPattern) →
-      ReadsText other (text_reading_of (normal_from least number) asked mask text payload) →
+      ReadsText other (text_reading_of (normal_from least number) asked mask None text payload) →
       found.best.number ≤ number
   pub greatest : (beyond : EcLevel) → column_of_level level < column_of_level beyond →
       NoGridReadsText (normal_from least) text beyond found.best.number

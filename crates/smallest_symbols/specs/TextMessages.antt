@@ -1,7 +1,7 @@
 -- A text that is spread over several symbols, each the smallest of its piece of the text (ISO/IEC
 -- 18004:2006, "Structured Append"). The promise is `AreSmallestTextSymbols`.
 use Rattle.std.specs.Prelude.{◌≡◌, ℕ, ℤ, nat_abs, ◌+◌, ◌<◌, List, [], ◌∷◌, ◌++◌, length, chars}
-use Rattle.std.specs.Prelude.{encode_utf8_all, slice_index_or, IsPermutation}
+use Rattle.std.specs.Prelude.{encode_utf8_all, slice_index_or, IsPermutation, Some}
 use Rattle.std.specs.List.{concat}
 use Rattle.qrcode_base.specs.Symbols.{IsNormalNumber}
 use Rattle.qrcode_base.specs.declared.types.Color.{Color}
@@ -15,16 +15,17 @@ use Rattle.text_plans.specs.declared.rules.Manner.{Manner}
 use Rattle.text_plans.specs.declared.rules.Manner.TheVariants.{Ascii, Paired, Designated}
 use Rattle.smallest_symbols.specs.TextParts.{IsSomePartTooLongIn, IsSomeTextPartTooLong}
 use Rattle.smallest_symbols.specs.TextParts.{text_of_part}
-use Rattle.smallest_symbols.specs.TextPieces.{IsSmallestPartUpTo, PieceReading, ReadsTextPiece}
+use Rattle.smallest_symbols.specs.TextHeadline.{ReadsText, TextReading}
+use Rattle.smallest_symbols.specs.TextPieces.{IsSmallestPartUpTo}
 
 -- ---- What a reader finds
 
 -- A reader of texts finds a piece of a text in the grid, after a header, in some parts.
 pub record FindsPiece (grid : List Color) (header : Header) (piece : List ℕ) (parts : List Part)
     : Type 0 where
-  pub reading : PieceReading
-  pub reads : ReadsTextPiece grid reading
-  pub header_is : reading.header ≡ header
+  pub reading : TextReading
+  pub reads : ReadsText grid reading
+  pub header_is : reading.header ≡ Some header
   pub piece_is : reading.text ≡ piece
   pub parts_are : reads.framed.parts ≡ parts
 

@@ -12,7 +12,8 @@
 //! 1. `text_plans`, or for bytes `byte_choice`, plans the fewest bits in a class of versions.
 //! 2. The first version that holds them, after the header of a sequence or with none, is chosen
 //!    (`text_choice`, `part_choice`, `byte_choice`, by `versions`), and its level may be raised.
-//! 3. The bits are pushed (`pushing`, `byte_drawing`), and `Symbol::with_bits` draws them.
+//! 3. The header, if there is one, and the parts are pushed (`pushing`, `byte_drawing`), and
+//!    `Symbol::with_bits` draws the bits.
 //!
 //! A text is written in the four modes, and after the ECI designators of ISO/IEC 8859, Shift JIS and
 //! UTF-8. Two bytes that are a character of Shift JIS are in the Kanji mode where that takes fewer

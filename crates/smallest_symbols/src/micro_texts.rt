@@ -62,7 +62,7 @@ pub fn micro_text(alloc: Global, text: &str, level: EcLevel) -> Result<Symbol, M
         Err(error) => return Err(MicroTextError::Symbol(error)),
     };
     let version = Version::Micro(choice.number as i16);
-    match drawn_plan(alloc, &choice.plan, version, level) {
+    match drawn_plan(alloc, None, &choice.plan, version, level) {
         Ok(symbol) => Ok(symbol),
         Err(error) => Err(MicroTextError::Symbol(error)),
     }

@@ -52,5 +52,5 @@ pub fn smallest_text(alloc: Global, text: &str, options: &SymbolOptions) -> QrRe
     let choice = chosen_plan(alloc, text, options.level, least, limit)?;
     let level = level_of(options, choice.bits, choice.number);
     let version = Version::Normal(choice.number as i16);
-    drawn_plan(alloc, &choice.plan, version, level)
+    drawn_plan(alloc, None, &choice.plan, version, level)
 }

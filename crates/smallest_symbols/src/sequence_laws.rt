@@ -1,5 +1,5 @@
-//! Laws: facts about grids that are read as pieces of a text. Each function has no body; its
-//! contract is the fact.
+//! Laws: facts about grids that are read as pieces of a text, beside those of `text_laws`, which
+//! hold of them too. Each function has no body; its contract is the fact.
 ghost use Rattle.std.specs.Prelude.{◌≡◌, ◌≤◌, ℕ, List, Some, chars};
 ghost use Rattle.std.specs.Str.{IsUtf8};
 ghost use Rattle.qrcode_base.specs.declared.types.Color.{Color};
@@ -13,27 +13,7 @@ ghost use Rattle.text_plans.specs.declared.rules.Manner.{Manner};
 ghost use Rattle.text_plans.specs.declared.rules.Manner.TheVariants.{Designated};
 ghost use Rattle.smallest_symbols.specs.TextParts.{IsTextPartTooLong};
 ghost use Rattle.smallest_symbols.specs.TextMessages.{HaveOneTextMessage};
-ghost use Rattle.smallest_symbols.specs.TextPieces.{HaveOnePieceReading, IsFarFromOtherPieces};
 ghost use Rattle.smallest_symbols.specs.TextPieces.{IsSmallestTextPart, NoGridReadsPiece};
-ghost use Rattle.smallest_symbols.specs.TextPieces.{NoPieceIsAText, PieceReading, ReadsTextPiece};
-
-/// No grid is read as a piece of a text in two ways: a reader finds one header, one text, one
-/// version, one level, one mask and one number of payload bits.
-pub fn have_one_piece_reading()
-    ensures { HaveOnePieceReading }
-{}
-
-/// No grid is read both as a piece of a text, after a header, and as a text without a header.
-pub fn no_piece_is_a_text()
-    ensures { NoPieceIsAText }
-{}
-
-/// Two grids that are read as different pieces, at one version and level, differ in some block in
-/// more codewords than the block has correction codewords (ISO/IEC 18004:2006, error correction).
-pub fn have_piece_distance()
-    ensures { (grid : List Color) (reading : PieceReading) (reads : ReadsTextPiece grid reading) →
-        IsFarFromOtherPieces grid reading reads }
-{}
 
 /// No set of grids can be read as two texts of a sequence, in whatever order the grids are given
 /// (ISO/IEC 18004:2006, "Structured Append").

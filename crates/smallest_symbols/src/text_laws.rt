@@ -1,5 +1,5 @@
-//! Laws: facts about grids that are read as texts. Each function has no body; its contract is
-//! the fact.
+//! Laws: facts about grids that are read as texts, after the header of a sequence or with none.
+//! Each function has no body; its contract is the fact.
 ghost use Rattle.std.specs.Prelude.{◌≡◌, ◌≤◌, ℕ, List, None, chars};
 ghost use Rattle.std.specs.Str.{IsUtf8};
 ghost use Rattle.qrcode_base.specs.declared.types.Color.{Color};
@@ -14,14 +14,16 @@ ghost use Rattle.smallest_symbols.specs.TextHeadline.{HaveOneTextReading, IsFarF
 ghost use Rattle.smallest_symbols.specs.TextHeadline.{IsSmallestText, NoGridReadsText};
 ghost use Rattle.smallest_symbols.specs.TextHeadline.{ReadsText, TextReading};
 
-/// No grid is read as a text in two ways: a reader finds one text, one version, one level, one mask
-/// and one number of payload bits.
+/// No grid is read as a text in two ways: a reader finds one header or none, one text, one version,
+/// one level, one mask and one number of payload bits. So no grid is read both as a piece of a
+/// text, after a header, and as a text without one.
 pub fn have_one_text_reading()
     ensures { HaveOneTextReading }
 {}
 
-/// Two grids that are read as different texts, at one version and level, differ in some block in
-/// more codewords than the block has correction codewords (ISO/IEC 18004:2006, error correction).
+/// Two grids that are read as different texts, or after different headers, or of which one has a
+/// header, at one version and level, differ in some block in more codewords than the block has
+/// correction codewords (ISO/IEC 18004:2006, error correction).
 pub fn have_text_distance()
     ensures { (grid : List Color) (reading : TextReading) (reads : ReadsText grid reading) →
         IsFarFromOtherTexts grid reading reads }

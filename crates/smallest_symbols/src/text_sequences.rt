@@ -12,14 +12,15 @@ ghost use Rattle.qrcode_bits.specs.Places.{IsCutPlace};
 ghost use Rattle.qrcode_bits.specs.declared.bits.front.Content.TheVariants.{Text};
 ghost use Rattle.qrcode_core.specs.Sequence.{IsTotalRefusal, parity_of, parts_at};
 ghost use Rattle.qrcode_core.specs.Symbol.{modules_of};
+ghost use Rattle.smallest_symbols.specs.TextHeadline.{TellsTextReading};
 ghost use Rattle.smallest_symbols.specs.TextMessages.{AreSmallestTextSymbols, AreSymbolsIn};
 ghost use Rattle.smallest_symbols.specs.TextMessages.{HasNoSymbols, HasNoSymbolsIn};
 ghost use Rattle.smallest_symbols.specs.TextMessages.{IsTextSequenceRefusal};
 ghost use Rattle.smallest_symbols.specs.TextParts.{IsSomePartTooLongIn, IsSomeTextPartTooLong};
 ghost use Rattle.text_plans.specs.declared.rules.Manner.TheVariants.{Ascii};
-ghost use Rattle.smallest_symbols.specs.TextPieces.{TellsPieceReading};
 
-use crate::part_symbols::{PieceHeader, part_symbol};
+use crate::part_symbols::part_symbol;
+use crate::pushing::PieceHeader;
 use qrcode_base::symbols::is_normal_number;
 use qrcode_base::types::{EcLevel, QrError, QrResult};
 use qrcode_core::symbol::Symbol;
@@ -62,7 +63,7 @@ pub fn smallest_text_sequence(
     requires whole { All (λ cut. IsCutPlace Text text.now cut) cuts.now }
     ensures smallest { IfOk result (λ symbols. AreSmallestTextSymbols text.now cuts.now level
         (nat_abs max_version) (map modules_of symbols.items)) }
-    ensures reading { IfOk result (λ symbols. All TellsPieceReading symbols.items) }
+    ensures reading { IfOk result (λ symbols. All TellsTextReading symbols.items) }
     ensures fitting { OnOk result (IsSomeTextPartTooLong text.now cuts.now level
         (nat_abs max_version) → ⊥) }
     ensures limit { OnOk result (IsNormalNumber max_version) }
@@ -98,7 +99,7 @@ fn beyond_ascii(
     requires long { IsSomePartTooLongIn Ascii text.now cuts.now level limit }
     ensures smallest { IfOk result (λ symbols. AreSmallestTextSymbols text.now cuts.now level limit
         (map modules_of symbols.items)) }
-    ensures reading { IfOk result (λ symbols. All TellsPieceReading symbols.items) }
+    ensures reading { IfOk result (λ symbols. All TellsTextReading symbols.items) }
     ensures refusal { IfErr result (HasNoSymbols text.now cuts.now level limit) }
 {
     match symbols_in(alloc, text, cuts, Manner::Paired, level, limit, total) {
@@ -130,7 +131,7 @@ fn symbols_in(
     requires last { limit ≤ 40 }
     ensures smallest { IfOk result (λ symbols. AreSymbolsIn manner text.now cuts.now level limit
         (map modules_of symbols.items)) }
-    ensures reading { IfOk result (λ symbols. All TellsPieceReading symbols.items) }
+    ensures reading { IfOk result (λ symbols. All TellsTextReading symbols.items) }
     ensures refusal { IfErr result (HasNoSymbolsIn manner text.now cuts.now level limit) }
 {
     let parity = parity_of(text.as_bytes());
@@ -138,7 +139,7 @@ fn symbols_in(
     for index in 0..total {
         let part = text_part(text, cuts, usize::from(index));
         let header = PieceHeader::new(index + 1, total, parity);
-        let symbol = part_symbol(alloc, &header, part, manner, level, limit);
+        let symbol = part_symbol(alloc, header, part, manner, level, limit);
         symbols.push(symbol?)?;
     }
     Ok(symbols)

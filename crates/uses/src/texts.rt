@@ -4,7 +4,6 @@ ghost use Rattle.qrcode_bits.specs.Plans.{micro};
 ghost use Rattle.qrcode_core.specs.Symbol.{modules_of};
 ghost use Rattle.smallest_symbols.specs.TextCuts.{AreBestTextCuts};
 ghost use Rattle.smallest_symbols.specs.TextMessages.{AreSmallestTextSymbols};
-ghost use Rattle.smallest_symbols.specs.TextPieces.{TellsPieceReading};
 ghost use Rattle.smallest_symbols.specs.TextHeadline.{IsSmallestInRange, IsSmallestText};
 ghost use Rattle.smallest_symbols.specs.TextHeadline.{TellsTextReading};
 
@@ -37,7 +36,7 @@ pub fn leaflet(alloc: Global, text: &str) -> QrResult<Vec<Symbol>>
     ensures fewest { IfOk result (λ symbols. (cuts : List ℕ)
         × AreBestTextCuts text.now EcLevel.M 40 cuts
         × AreSmallestTextSymbols text.now cuts EcLevel.M 40 (map modules_of symbols.items)) }
-    ensures reading { IfOk result (λ symbols. All TellsPieceReading symbols.items) }
+    ensures reading { IfOk result (λ symbols. All TellsTextReading symbols.items) }
 {
     let cuts = smallest_text_cuts(alloc, text, EcLevel::M, 40)?;
     smallest_text_sequence(alloc, text, &cuts, EcLevel::M, 40)

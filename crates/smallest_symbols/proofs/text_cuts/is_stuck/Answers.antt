@@ -1,10 +1,8 @@
 -- The character stands between two places, one after the other.
 use Rattle.std.proofs.Common.{◌+◌, arith}
-use Rattle.std.specs.Prelude.{slice_index_or}
 use Rattle.qrcode_bits.specs.declared.bits.front.Content.TheVariants.{Text}
-use Rattle.qrcode_core.proofs.BestCuts.{is_place, places_order}
+use Rattle.qrcode_core.proofs.BestCuts.{places_order}
 use Rattle.smallest_symbols.proofs.FewestCuts.{stuck_at}
-use Rattle.smallest_symbols.proofs.Slices.{place_boundary}
 use Rattle.smallest_symbols.proofs.text_cuts.is_stuck.Goals as goal
 
 pub range-part-requires-clause-start_le_end : goal.range-part-requires-clause-start_le_end

@@ -6,7 +6,7 @@ use Rattle.std.proofs.lemmas.List.Elements.{All-nil, All-push}
 use Rattle.qrcode_bits.specs.Frame.{header_of}
 use Rattle.qrcode_core.specs.Sequence.{parity_of}
 use Rattle.qrcode_core.specs.Symbol.{modules_of}
-use Rattle.smallest_symbols.specs.TextPieces.{TellsPieceReading}
+use Rattle.smallest_symbols.specs.TextHeadline.{TellsTextReading}
 use Rattle.smallest_symbols.proofs.TextMessages.{no_symbols, one_more, refused_part, symbols_of}
 use Rattle.smallest_symbols.proofs.text_sequences.symbols_in.Goals as goal
 
@@ -21,7 +21,7 @@ pub loop-index-init : goal.loop-index-init
 loop-index-init c = record {
   first = rw c.new-symbols.ensures.items
       (no_symbols c.args.manner c.args.text.now c.args.cuts.now c.args.level c.args.limit c.args.total);
-  reading = rw c.new-symbols.ensures.items (All-nil TellsPieceReading);
+  reading = rw c.new-symbols.ensures.items (All-nil TellsTextReading);
 }
 
 pub loop-index-preserved : goal.loop-index-preserved
@@ -40,7 +40,7 @@ loop-index-preserved c =
           (one_more c.args.manner text cuts c.args.level c.args.limit c.args.total done (map modules_of before) c.in_ok-symbol.field-0.modules
           c.loop-index.invariant.first symbol);
       reading = rw c.in_ok-push.ensures.items
-          (All-push TellsPieceReading before c.in_ok-symbol.field-0 c.loop-index.invariant.reading c.in_ok-symbol.ensures.reading);
+          (All-push TellsTextReading before c.in_ok-symbol.field-0 c.loop-index.invariant.reading c.in_ok-symbol.ensures.reading);
     }
 
 pub returns-clause-smallest : goal.returns-clause-smallest
