@@ -21,7 +21,7 @@ STAYS = {
         "Not carried are floating point, `serde`, `no_std` and the benchmark functions.",
         "**Where the Rust code differs from its own documentation the port follows the code**",
         "and on `itoa` of the kit beside `arrayvec` and `thiserror`",
-        "**`Source` and `Sink` ask for a `reason` too**",
+        "**Why a device failed is asked of the traits above `Source` and `Sink`**",
         "**A plan merges parsed segments and never splits one**",
         "in one pass and within 36 comparisons a segment for data of every length.",
         "The original has a quadratic body for up to 32 segments, and there is none here.",

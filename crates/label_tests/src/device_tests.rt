@@ -1,7 +1,7 @@
 //! Tests of `programs`: devices that fail, and what is said about it.
 use programs::{
-    Fault, FromReader, FromWriter, Gathered, Sink, Source, read_all, reason_text, report_device,
-    write_all, write_line,
+    Fault, FromReader, FromWriter, Gathered, ReportingSink, ReportingSource, Sink, read_all,
+    reason_text, report_device, write_all, write_line,
 };
 use std::alloc::AllocError;
 use std::io;

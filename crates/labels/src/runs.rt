@@ -34,7 +34,7 @@ use label_words::{
     Command, Label, Misuse, Name, Numbering, Portion, Values, command_of, help_text, version_text,
     write_misuse,
 };
-use programs::{Sink, Source, report_device, write_all};
+use programs::{ReportingSink, ReportingSource, Sink, report_device, write_all};
 use qrcode_render::{DrawOptions, Format, Setting};
 use single_label::are_pages;
 use std::alloc::Global;
@@ -58,7 +58,7 @@ fn lines_status<E: Sink>(errors: &mut E, devices: &Devices, outcome: Result<bool
 }
 
 /// Draws the labels of the lines of the input in one output, and returns the exit status.
-fn serve_lines<R: Source, W: Sink, E: Sink>(
+fn serve_lines<R: ReportingSource, W: ReportingSink, E: Sink>(
     alloc: Global,
     label: &Label,
     options: &DrawOptions,
@@ -86,7 +86,7 @@ fn serve_lines<R: Source, W: Sink, E: Sink>(
 
 /// Draws the labels of the lines of the input as the pages of one document, and returns the
 /// exit status.
-fn serve_pages<R: Source, W: Sink, E: Sink>(
+fn serve_pages<R: ReportingSource, W: ReportingSink, E: Sink>(
     alloc: Global,
     label: &Label,
     options: &DrawOptions,
@@ -115,7 +115,7 @@ fn serve_pages<R: Source, W: Sink, E: Sink>(
 }
 
 /// Draws each label of a line of the input in a file of its own, and returns the exit status.
-fn serve_files<R: Source, F: Files, E: Sink>(
+fn serve_files<R: ReportingSource, F: Files, E: Sink>(
     alloc: Global,
     label: &Label,
     options: &DrawOptions,
@@ -148,7 +148,7 @@ fn serve_files<R: Source, F: Files, E: Sink>(
 /// Draws the label of the whole input or those of its lines, and returns the exit status: 0 if all
 /// labels were written, 1 if they were not, which one line on `errors` explains, and 141 without a
 /// line if a pipe was closed.
-fn serve<R: Source, W: Sink, F: Files, E: Sink>(
+fn serve<R: ReportingSource, W: ReportingSink, F: Files, E: Sink>(
     alloc: Global,
     label: &Label,
     options: &DrawOptions,
@@ -192,7 +192,7 @@ pub fn misused<E: Sink>(errors: &mut E, misuse: Misuse, value: Option<&str>) -> 
 }
 
 /// Writes a text, and returns the exit status.
-fn show<W: Sink, E: Sink>(text: &str, writer: &mut W, errors: &mut E) -> u8
+fn show<W: ReportingSink, E: Sink>(text: &str, writer: &mut W, errors: &mut E) -> u8
     requires writer_sound { IsFalse (W.state writer.old).failed }
     requires errors_sound { IsFalse (E.state errors.old).failed }
     ensures { Shows text.now (output (W.state writer.old) (W.state writer.new))
@@ -276,7 +276,7 @@ fn last_report<E: Sink>(errors: &mut E, status: u8, label: &Label, options: &Dra
 
 /// Draws the label, and returns the exit status: that of `serve`, or 2 if a setting of the picture
 /// is not valid.
-fn run_label<R: Source, W: Sink, F: Files, E: Sink>(
+fn run_label<R: ReportingSource, W: ReportingSink, F: Files, E: Sink>(
     alloc: Global,
     values: &Values,
     label: &Label,
@@ -309,7 +309,7 @@ fn run_label<R: Source, W: Sink, F: Files, E: Sink>(
 /// Does what the words ask for, and returns the exit status: 0 if all was written, 1 after an
 /// error, 2 if the words are wrong, 141 if a pipe was closed, and `LEFT_OUT`. An error of `errors`
 /// itself is ignored.
-pub fn run<R: Source, W: Sink, F: Files, E: Sink>(
+pub fn run<R: ReportingSource, W: ReportingSink, F: Files, E: Sink>(
     alloc: Global,
     values: &Values,
     on_terminal: bool,

@@ -15,7 +15,7 @@ use crate::part_files::put_message;
 use crate::report::report_stop;
 use crate::stop::Devices;
 use label_words::{Label, Numbering};
-use programs::{Sink, Source, read_up_to, write_all};
+use programs::{ReportingSink, ReportingSource, Sink, Source, read_up_to, write_all};
 use qrcode_render::DrawOptions;
 use single_label::{Stop, WithDetails, label_bytes, message_text, most_bytes, most_together};
 use std::alloc::Global;
@@ -94,7 +94,7 @@ fn label_status<E: Sink>(errors: &mut E, devices: &Devices, outcome: Made) -> u8
 }
 
 /// Draws the label of the whole input, and returns the exit status.
-pub fn serve_label<R: Source, W: Sink, E: Sink>(
+pub fn serve_label<R: ReportingSource, W: ReportingSink, E: Sink>(
     alloc: Global,
     label: &Label,
     options: &DrawOptions,
@@ -122,7 +122,7 @@ pub fn serve_label<R: Source, W: Sink, E: Sink>(
 
 /// Draws the labels of the symbols that carry the whole input together, one after the other, and
 /// returns the exit status.
-pub fn serve_message<R: Source, W: Sink, E: Sink>(
+pub fn serve_message<R: ReportingSource, W: ReportingSink, E: Sink>(
     alloc: Global,
     label: &Label,
     options: &DrawOptions,
@@ -150,7 +150,7 @@ pub fn serve_message<R: Source, W: Sink, E: Sink>(
 
 /// Draws the label of each symbol that carries a part of the whole input in a file of its own, and
 /// returns the exit status.
-pub fn serve_parts<R: Source, F: Files, E: Sink>(
+pub fn serve_parts<R: ReportingSource, F: Files, E: Sink>(
     alloc: Global,
     label: &Label,
     options: &DrawOptions,

@@ -3,7 +3,7 @@ ghost use Rattle.std.specs.Prelude.{◌≡◌, [], not, IsFalse};
 ghost use Rattle.std.specs.Bool.{OnTrue};
 ghost use Rattle.std.specs.Io.KnownBytes.{append_known, Keeps};
 
-use crate::Sink;
+use crate::{ReportingSink, Sink};
 use arrayvec::ArrayVec;
 use std::io::ErrorKind;
 
@@ -58,8 +58,6 @@ impl<W: Sink> Sink for Gathered<W> {
       reason = (W.state s.inner).reason;
     } };
 
-    ghost reason_of_failure = { λ s. W.reason_of_failure s.inner };
-
     fn push(&mut self, buf: &[u8]) -> Option<usize> {
         if self.waiting.remaining_capacity() < buf.len() && !self.pass_on() {
             return None;
@@ -76,6 +74,10 @@ impl<W: Sink> Sink for Gathered<W> {
     fn failed(&self) -> bool {
         self.inner.failed()
     }
+}
+
+impl<W: ReportingSink> ReportingSink for Gathered<W> {
+    ghost reason_of_failure = { λ s. W.reason_of_failure s.inner };
 
     fn reason(&self) -> Option<ErrorKind> {
         self.inner.reason()

@@ -34,7 +34,7 @@ mod reasons;
 mod reports;
 
 pub use descriptors::held_descriptors;
-pub use devices::{FromReader, FromWriter, Sink, Source};
+pub use devices::{FromReader, FromWriter, ReportingSink, ReportingSource, Sink, Source};
 pub use files::{WholeFile, put_file};
 pub use gathered::Gathered;
 pub use lines::{read_line, skip_line};

@@ -11,8 +11,8 @@ use crate::progress::Counting;
 use label_words::{Command, Label, Name, Portion, Values, command_of, is_document};
 use labels::{LEFT_OUT, misused, run};
 use programs::{
-    Fault, FromReader, FromWriter, Gathered, Sink, Source, WholeFile, Word, report, report_device,
-    write_word_line,
+    Fault, FromReader, FromWriter, Gathered, ReportingSink, ReportingSource, Sink, WholeFile, Word,
+    report, report_device, write_word_line,
 };
 use std::alloc::AllocError;
 use std::fs::File;
@@ -101,7 +101,7 @@ fn counting<T>(rt: &HostRuntime, labels: T, on_terminal: bool) -> Counting<T, Nu
 }
 
 /// Draws from the text of the words, from the file that they name, or from standard input.
-fn from_input<W: Sink, E: Sink>(
+fn from_input<W: ReportingSink, E: Sink>(
     rt: &HostRuntime,
     values: &Values,
     on_terminal: bool,
@@ -135,7 +135,7 @@ fn open(rt: &HostRuntime, path: &str) -> Result<File, ErrorKind> {
 }
 
 /// Draws from a device. Lines are read through a buffer, since each byte of them is asked for.
-fn from_device<R: Read + Drop, W: Sink, E: Sink>(
+fn from_device<R: Read + Drop, W: ReportingSink, E: Sink>(
     rt: &HostRuntime,
     values: &Values,
     on_terminal: bool,
@@ -160,7 +160,7 @@ fn from_device<R: Read + Drop, W: Sink, E: Sink>(
 }
 
 /// Draws from a source, and writes the files that have numbers to where their names say.
-fn run_from<R: Source, W: Sink, E: Sink>(
+fn run_from<R: ReportingSource, W: ReportingSink, E: Sink>(
     rt: &HostRuntime,
     values: &Values,
     on_terminal: bool,
@@ -186,7 +186,7 @@ fn run_from<R: Source, W: Sink, E: Sink>(
 
 /// Draws into what a name stands for: an output of the process, which is written from where it is,
 /// or a file.
-fn into_named<W: Sink, E: Sink>(
+fn into_named<W: ReportingSink, E: Sink>(
     rt: &HostRuntime,
     values: &Values,
     label: &Label,

@@ -4,7 +4,7 @@ ghost use Rattle.programs.specs.Devices.{output, Writes};
 
 use itoa::Buffer;
 use labels::Files;
-use programs::{Sink, push_all, write_all};
+use programs::{ReportingSink, Sink, push_all, write_all};
 use std::io::ErrorKind;
 
 /// The number is written after each hundredth label.
@@ -64,8 +64,6 @@ impl<W, E: Sink> Counting<W, E> {
 impl<W: Sink, E: Sink> Sink for Counting<W, E> {
     ghost state = { λ s. W.state s.labels };
 
-    ghost reason_of_failure = { λ s. W.reason_of_failure s.labels };
-
     fn push(&mut self, buf: &[u8]) -> Option<usize> {
         self.labels.push(buf)
     }
@@ -79,6 +77,10 @@ impl<W: Sink, E: Sink> Sink for Counting<W, E> {
     fn failed(&self) -> bool {
         self.labels.failed()
     }
+}
+
+impl<W: ReportingSink, E: Sink> ReportingSink for Counting<W, E> {
+    ghost reason_of_failure = { λ s. W.reason_of_failure s.labels };
 
     fn reason(&self) -> Option<ErrorKind> {
         self.labels.reason()
