@@ -163,6 +163,19 @@ class InvalidSettingError(SicklespanError):
         self.setting = setting
 
 
+class InvalidFieldError(SicklespanError):
+    """A field of a text that `helpers` make has a wrong value.
+
+    `field` is the name of the parameter.
+    """
+
+    field: Optional[str] = None
+
+    def __init__(self, text: str, field: Optional[str] = None) -> None:
+        super().__init__(text)
+        self.field = field
+
+
 class InvalidPatternError(SicklespanError):
     """The name of the files of a sequence has more than one `%d`."""
 
