@@ -163,6 +163,33 @@ class InvalidSettingError(SicklespanError):
         self.setting = setting
 
 
+class InvalidFieldError(SicklespanError):
+    """A field of a text that `helpers` make has a wrong value.
+
+    `field` is the name of the parameter.
+    """
+
+    field: Optional[str] = None
+
+    def __init__(self, text: str, field: Optional[str] = None) -> None:
+        super().__init__(text)
+        self.field = field
+
+
+class InvalidPatternError(SicklespanError):
+    """The name of the files of a sequence has more than one `%d`."""
+
+
+class MissingModuleError(SicklespanError, ImportError):
+    """A call needs a module of others, as Pillow or NumPy, that is not installed.
+
+    `name` is that of the module.
+    """
+
+    def __init__(self, text: str, name: Optional[str] = None) -> None:
+        ImportError.__init__(self, text, name=name)
+
+
 # By the numbers of sicklespan.h. The others are no fault of a caller of this package.
 ERRORS: Dict[int, Type[SicklespanError]] = {
     1: DataTooLongError,

@@ -1,73 +1,19 @@
 """The functions that make symbols."""
 
 import ctypes
-import operator
-from typing import Callable, List, Optional, Sequence, Union
+from typing import Optional, Union
 
+from ._arguments import (
+    LEVELS, Content, data_of, is_beyond_ascii, level_number, utf8, version_number, whole_bytes)
 from ._errors import (
     BYTES, BYTES_WITHOUT_KANJI, ELEMENTS, GS1, GS1_UNCHECKED, MICRO, MICRO_TEXT, SMALLEST_TEXT,
-    TEXT, DataTooLongError, InvalidCutsError, InvalidLevelError, InvalidPartCountError,
-    InvalidTextError, InvalidVersionsError, SicklespanError, check, check_data, check_link, shown)
+    TEXT, DataTooLongError, InvalidLevelError, InvalidTextError, InvalidVersionsError,
+    SicklespanError, check_data, check_link)
 from ._library import Options, Shape, library
-from ._symbol import LEVELS, Symbol
+from ._symbol import Symbol
 
 _SIZE = 177 * 177
 _SHORT_BUFFER = 8
-
-# What a symbol is made of.
-Content = Union[str, bytes, bytearray, memoryview]
-
-
-def _type_error(name: str, wanted: str, it: object) -> TypeError:
-    return TypeError(f"{name} is {wanted}, and not {type(it).__name__}")
-
-
-def _text(name: str, content: str) -> bytes:
-    """A text in UTF-8."""
-    if not isinstance(content, str):
-        raise _type_error(name, "a str", content)
-    try:
-        return str.encode(content)
-    except UnicodeEncodeError as error:
-        raise InvalidTextError(f"{name} has a lone surrogate at {error.start}") from error
-
-
-def _bytes(name: str, content: Content) -> bytes:
-    if not isinstance(content, (bytes, bytearray, memoryview)):
-        raise _type_error(name, "bytes", content)
-    return bytes(content)
-
-
-def _data(content: Content) -> bytes:
-    """The bytes of a text or of bytes."""
-    if isinstance(content, str):
-        return _text("content", content)
-    if not isinstance(content, (bytes, bytearray, memoryview)):
-        raise _type_error("content", "a str or bytes", content)
-    return bytes(content)
-
-
-def _number(level: Optional[str], usual: str = "M") -> int:
-    if level is None:
-        level = usual
-    if not isinstance(level, str):
-        raise _type_error("error", "one of L, M, Q and H", level)
-    number = LEVELS.find(level.upper()) if len(level) == 1 else -1
-    if number < 0:
-        raise InvalidLevelError(f"the level is one of L, M, Q and H, and not {level!r}")
-    return number
-
-
-def _version(name: str, number: int) -> int:
-    """The number, which ctypes would else cut to 32 bits."""
-    try:
-        whole = operator.index(number)
-    except TypeError:
-        raise _type_error(name, "a number from 1 to 40", number) from None
-    if not 1 <= whole <= 40:
-        raise InvalidVersionsError(f"{name} is 1 to 40, and not {shown(whole)}")
-    return whole
-
 
 _CALLS = {BYTES: library.sicklespan_bytes,
           BYTES_WITHOUT_KANJI: library.sicklespan_bytes_without_kanji,
@@ -92,18 +38,14 @@ def _drawn(content: int, data: bytes, options: Options) -> Symbol:
 
 def _options(error: Optional[str], version: Optional[int], min_version: int, max_version: int,
              boost_error: bool) -> Options:
-    least, most = _version("min_version", min_version), _version("max_version", max_version)
+    least = version_number("min_version", min_version)
+    most = version_number("max_version", max_version)
     if version is not None:
-        wanted = _version("version", version)
+        wanted = version_number("version", version)
         if not least <= wanted <= most:
             raise InvalidVersionsError(f"version {wanted} is not from {least} to {most}")
         least = most = wanted
-    return Options(_number(error), least, most, bool(boost_error))
-
-
-def _is_beyond_ascii(content: Content) -> bool:
-    """Whether it is a text that has other characters than ASCII has."""
-    return isinstance(content, str) and not content.isascii()
+    return Options(level_number(error), least, most, bool(boost_error))
 
 
 def make(content: Content, error: Optional[str] = None, version: Optional[int] = None, *,
@@ -124,12 +66,20 @@ def make(content: Content, error: Optional[str] = None, version: Optional[int] =
     UTF-8 beyond ASCII, as `str.encode` returns, readers may show other characters. With `kanji`
     False none of them do: it is for bytes, and for no Micro symbol, so that `micro` None makes none
     then.
+
+        >>> sicklespan.make("hello"), sicklespan.make("hello", "L", boost_error=False).level
+        (<sicklespan.Symbol 1-H, mask 5>, 'L')
+        >>> sicklespan.make("12345", "L", micro=None).designator
+        'M1-L'
+        >>> sicklespan.make("x" * 20, "L", max_version=1)
+        Traceback (most recent call last):
+        sicklespan._errors.DataTooLongError: the data are too long, by 3 bytes
     """
     options = _options(error, version, min_version, max_version, boost_error)
     if not kanji:
         if micro:
             raise SicklespanError("a Micro symbol has no form without the Kanji mode")
-        return _drawn(BYTES_WITHOUT_KANJI, _bytes("content", content), options)
+        return _drawn(BYTES_WITHOUT_KANJI, whole_bytes("content", content), options)
     is_any = version is None and (min_version, max_version) == (1, 40)
     if micro and not is_any:
         raise InvalidVersionsError("a Micro symbol has no version from 1 to 40")
@@ -139,8 +89,8 @@ def make(content: Content, error: Optional[str] = None, version: Optional[int] =
         except (DataTooLongError, InvalidLevelError, InvalidTextError):
             if micro:
                 raise
-    data = _data(content)
-    return _drawn(SMALLEST_TEXT if _is_beyond_ascii(content) else BYTES, data, options)
+    data = data_of(content)
+    return _drawn(SMALLEST_TEXT if is_beyond_ascii(content) else BYTES, data, options)
 
 
 def text(content: str, error: Optional[str] = None, version: Optional[int] = None, *,
@@ -149,14 +99,23 @@ def text(content: str, error: Optional[str] = None, version: Optional[int] = Non
 
     It is for readers that know no other designator. This takes 12 bits: ASCII is read alike without
     it, by `make`.
+
+        >>> sicklespan.text("\u5e02\u5317\u524d\u5009\u6771", "M").version
+        2
+        >>> sicklespan.make("\u5e02\u5317\u524d\u5009\u6771", "M").version
+        1
     """
     options = _options(error, version, min_version, max_version, boost_error)
-    return _drawn(TEXT, _text("content", content), options)
+    return _drawn(TEXT, utf8("content", content), options)
 
 
 def make_qr(content: Content, error: Optional[str] = None, version: Optional[int] = None, *,
             boost_error: bool = True) -> Symbol:
-    """What `make` returns, which is no Micro symbol."""
+    """What `make` returns, which is no Micro symbol.
+
+        >>> sicklespan.make_qr("hello", version=2).designator
+        '2-H'
+    """
     return make(content, error, version, boost_error=boost_error)
 
 
@@ -169,9 +128,15 @@ def gs1(content: str, error: Optional[str] = None, version: Optional[int] = None
     check digit, the date, the country and what else the table asks for. The elements stand together:
     beside each are those that it needs, as a batch (10) needs a trade item (01), and none that it
     excludes; and an identifier that stands twice has one value.
+
+        >>> sicklespan.gs1("(01)09506000134352(10)ABC123").version
+        1
+        >>> sicklespan.gs1("(01)09506000134353")
+        Traceback (most recent call last):
+        sicklespan._errors.WrongCheckDigitError: element 1 (01), character 14: wrong check digit
     """
     options = _options(error, version, min_version, max_version, boost_error)
-    return _drawn(GS1, _text("content", content), options)
+    return _drawn(GS1, utf8("content", content), options)
 
 
 def gs1_unchecked(content: str, error: Optional[str] = None, version: Optional[int] = None, *,
@@ -183,16 +148,24 @@ def gs1_unchecked(content: str, error: Optional[str] = None, version: Optional[i
     11 to 20, 31 to 36 or 41), and the check digits of 00, 01, 02 and 410 to 417. What else GS1 says
     of a value, its greatest length, say, or a date, is not tested, nor which elements stand
     together.
+
+        >>> sicklespan.gs1_unchecked("(4399)x").version
+        1
     """
     options = _options(error, version, min_version, max_version, boost_error)
-    return _drawn(GS1_UNCHECKED, _text("content", content), options)
+    return _drawn(GS1_UNCHECKED, utf8("content", content), options)
 
 
 def link(content: str, domain: str, error: Optional[str] = None, version: Optional[int] = None, *,
          min_version: int = 1, max_version: int = 40, boost_error: bool = True) -> Symbol:
-    """The best symbol of the GS1 Digital Link of elements, which `link_text` returns."""
+    """The best symbol of the GS1 Digital Link of elements, which `link_text` returns.
+
+        >>> symbol = sicklespan.link("(01)09506000134352", "id.gs1.org")
+        >>> symbol == sicklespan.make("https://id.gs1.org/01/09506000134352")
+        True
+    """
     options = _options(error, version, min_version, max_version, boost_error)
-    text, host = _text("content", content), _text("domain", domain)
+    text, host = utf8("content", content), utf8("domain", domain)
     modules, shape = ctypes.create_string_buffer(_SIZE), Shape()
     status = library.sicklespan_link(text, len(text), host, len(host), ctypes.byref(options),
                                      modules, _SIZE, ctypes.byref(shape))
@@ -206,8 +179,11 @@ def link_text(content: str, domain: str) -> str:
     The key comes first, then its qualifiers, and the other elements as a query. The elements are
     tested as `gs1` does it. The domain is a host name of letters, digits, `-` and `.`, with a port
     or without, and with the path at which the link begins or without: `example.com/shop`.
+
+        >>> sicklespan.link_text("(17)261231(10)ABC(01)09506000134352", "id.gs1.org")
+        'https://id.gs1.org/01/09506000134352/10/ABC?17=261231'
     """
-    text, host = _text("content", content), _text("domain", domain)
+    text, host = utf8("content", content), utf8("domain", domain)
     room, size, status = 1 << 10, ctypes.c_size_t(), _SHORT_BUFFER
     while status == _SHORT_BUFFER:
         room = max(room, size.value)
@@ -224,9 +200,13 @@ def elements(content: Union[bytes, bytearray, memoryview], error: Optional[str] 
     """The best symbol of GS1 elements as readers find them, with the byte 1D (hex) between two.
 
     Tested are the characters and the separators, and not the identifiers and the values.
+
+        >>> symbol = sicklespan.elements(b"10ABC\\x1d0109506000134352")
+        >>> symbol == sicklespan.gs1("(10)ABC(01)09506000134352")
+        True
     """
     options = _options(error, version, min_version, max_version, boost_error)
-    return _drawn(ELEMENTS, _bytes("content", content), options)
+    return _drawn(ELEMENTS, whole_bytes("content", content), options)
 
 
 def micro(content: Content, error: Optional[str] = None) -> Symbol:
@@ -236,15 +216,22 @@ def micro(content: Content, error: Optional[str] = None) -> Symbol:
     of a text are those of ASCII alone, or those of the Kanji mode and of ASCII but `\\` and `~`:
     another text is an `UnwritableTextError`. Of bytes that are not ASCII readers may show other
     characters.
+
+        >>> sicklespan.micro("12345")
+        <sicklespan.Symbol M1-L, mask 2>
     """
-    data = _data(content)
-    kind = MICRO_TEXT if _is_beyond_ascii(content) else MICRO
-    return _drawn(kind, data, Options(_number(error, "L"), 1, 40, False))
+    data = data_of(content)
+    kind = MICRO_TEXT if is_beyond_ascii(content) else MICRO
+    return _drawn(kind, data, Options(level_number(error, "L"), 1, 40, False))
 
 
 def make_micro(content: Content, error: Optional[str] = None, *,
                boost_error: bool = True) -> Symbol:
-    """What `micro` returns, with `boost_error` at the greatest level at which it is no larger."""
+    """What `micro` returns, with `boost_error` at the greatest level at which it is no larger.
+
+        >>> sicklespan.make_micro("123456").designator, sicklespan.micro("123456").designator
+        ('M2-M', 'M2-L')
+    """
     symbol = micro(content, error)
     for level in LEVELS[LEVELS.index(symbol.level) + 1:-1] if boost_error else "":
         try:
@@ -255,78 +242,3 @@ def make_micro(content: Content, error: Optional[str] = None, *,
             break
         symbol = stronger
     return symbol
-
-
-def _best_cuts(call: Callable[..., int], data: bytes, level: int, limit: int) -> List[int]:
-    found, count = (ctypes.c_size_t * 15)(), ctypes.c_size_t()
-    check(call(data, len(data), level, limit, found, 15, ctypes.byref(count)))
-    return found[:count.value]
-
-
-def _places(cuts: Sequence[int], length: int) -> List[int]:
-    """The cuts, which ctypes would else cut to 64 bits."""
-    try:
-        places = [operator.index(cut) for cut in cuts]
-    except TypeError:
-        raise _type_error("cuts", "a sequence of numbers", cuts) from None
-    for cut in places:
-        if not 0 <= cut <= length:
-            raise InvalidCutsError(f"a cut is 0 to {length}, and not {shown(cut)}")
-    return places
-
-
-def sequence(content: Content, cuts: Optional[Sequence[int]] = None, error: Optional[str] = None,
-             *, max_version: int = 40) -> List[Symbol]:
-    """The symbols that carry a message together (Structured Append), in versions up to a greatest.
-
-    Part i ends before byte `cuts[i]`, and the last one at the end of the message. Where no cuts are
-    given, the symbols are as few as can be; if one after a header is enough, it is returned without
-    the header, as `make` returns it, and is no part of a sequence.
-
-    Text that is not ASCII is encoded in UTF-8, and each symbol says so: the symbols are the fewest
-    of those, and `make` may fit a text into one that is in several here. Its cuts count the bytes
-    of its UTF-8, and each is between two characters.
-    """
-    is_text, data = _is_beyond_ascii(content), _data(content)
-    level, limit = _number(error), _version("max_version", max_version)
-    if cuts is None:
-        find = library.sicklespan_text_cuts if is_text else library.sicklespan_cuts
-        cuts = _best_cuts(find, data, level, limit)
-        if not cuts:
-            return [make(content, error, max_version=limit, boost_error=False)]
-    ends = _places(cuts, len(data))
-    places, shapes = (ctypes.c_size_t * len(ends))(*ends), (Shape * (len(ends) + 1))()
-    room = min(len(shapes), 16) * (17 + 4 * limit) ** 2
-    modules = ctypes.create_string_buffer(room)
-    draw = library.sicklespan_text_sequence if is_text else library.sicklespan_sequence
-    check(draw(data, len(data), places, len(ends), level, limit, modules, room, shapes))
-    symbols, start = [], 0
-    for shape in shapes:
-        size = shape.width ** 2
-        symbols.append(Symbol(modules.raw[start:start + size], shape))
-        start += size
-    return symbols
-
-
-def _even_cuts(content: Content, count: int) -> List[int]:
-    """The bytes at which the content is cut into parts that differ by one character at most."""
-    places = [i * len(content) // count for i in range(1, count)]
-    if not isinstance(content, str):
-        return places
-    return [len(content[:place].encode()) for place in places]
-
-
-def make_sequence(content: Content, error: Optional[str] = None, *,
-                  symbol_count: Optional[int] = None, max_version: int = 40) -> List[Symbol]:
-    """What `sequence` returns, in this number of symbols, whose parts are about equally long."""
-    data = _data(content)
-    if symbol_count is None:
-        return sequence(content, None, error, max_version=max_version)
-    try:
-        count = operator.index(symbol_count)
-    except TypeError:
-        raise _type_error("symbol_count", "a number from 2 to 16", symbol_count) from None
-    if not 2 <= count <= 16:
-        raise InvalidPartCountError(f"symbol_count is 2 to 16, and not {shown(count)}")
-    whole: Content = content if isinstance(content, str) else data
-    return sequence(content, _even_cuts(whole, count), error, max_version=max_version)

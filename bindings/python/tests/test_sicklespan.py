@@ -16,6 +16,9 @@ if "SICKLESPAN_LIBRARY" in os.environ:
     sys.path.insert(0, os.path.dirname(HERE))
 import sicklespan  # noqa: E402
 from test_arguments import Arguments  # noqa: E402,F401
+from test_examples import Examples  # noqa: E402,F401
+from test_helpers import Helpers  # noqa: E402,F401
+from test_objects import Objects, Sequences  # noqa: E402,F401
 from test_pictures import Pictures, read  # noqa: E402,F401
 
 

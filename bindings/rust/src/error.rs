@@ -1,6 +1,6 @@
 //! Why there is no symbol, or no picture.
 use crate::ffi::{self, Content};
-use std::fmt;
+use std::{fmt, io};
 
 /// Where an element of a GS1 text has a fault, and what it is.
 ///
@@ -67,7 +67,7 @@ pub enum Error {
     },
     /// The C library found no memory.
     OutOfMemory,
-    /// A Micro symbol was asked for at level H.
+    /// A Micro symbol was asked for at level H, or a text names no level.
     InvalidLevel,
     /// The greatest version of a sequence is not 1 to 40.
     InvalidMaxVersion,
@@ -75,7 +75,7 @@ pub enum Error {
     InvalidPartCount,
     /// A cut is below the one before it, or above the length of the message.
     InvalidCuts,
-    /// The versions are not 1 to 40, or the least is above the greatest.
+    /// The versions are not 1 to 40, or the least is above the greatest; or a text names none.
     InvalidVersions,
     /// A byte of elements as readers find them is no character of a GS1 element.
     InvalidCharacter {
@@ -127,6 +127,8 @@ pub enum Error {
         /// The name of the setting, which is that of its method in `Settings`.
         name: &'static str,
     },
+    /// A text, or the ending of a file's name, names no format of pictures.
+    InvalidFormat,
 }
 
 impl Error {
@@ -256,6 +258,7 @@ impl Error {
             Error::ValueTooLong(_) => 17,
             Error::WrongLength(_) => 18,
             Error::WrongCheckDigit(_) => 19,
+            Error::InvalidFormat => 21,
             Error::InvalidSetting { .. } => 22,
             Error::WrongValue(_) => 24,
             Error::WrongDomain => 25,
@@ -290,3 +293,27 @@ impl fmt::Display for Error {
 }
 
 impl std::error::Error for Error {}
+
+impl From<Error> for io::Error {
+    /// Returns the error of a call that writes a picture, within which this one is.
+    ///
+    /// ```
+    /// use sicklespan::{Error, Level, Settings, Symbol};
+    /// use std::io::ErrorKind;
+    ///
+    /// let symbol = Symbol::new("hello", Level::M)?;
+    /// let error = symbol.save_with("hello.svg", &Settings::new().dpi(300)).unwrap_err();
+    /// assert_eq!(error.kind(), ErrorKind::InvalidInput);
+    /// let inner = error.get_ref().and_then(|inner| inner.downcast_ref::<Error>());
+    /// assert_eq!(inner, Some(&Error::InvalidSetting { name: "dpi" }));
+    /// # Ok::<(), Error>(())
+    /// ```
+    fn from(error: Error) -> io::Error {
+        let kind = match error {
+            Error::OutOfMemory => io::ErrorKind::OutOfMemory,
+            Error::UnsupportedProcessor => io::ErrorKind::Unsupported,
+            _ => io::ErrorKind::InvalidInput,
+        };
+        io::Error::new(kind, error)
+    }
+}

@@ -39,6 +39,14 @@ impl Symbol {
     /// Returns the best symbol of GS1 elements at a level: identifiers with their values, with the
     /// byte 1D (hex) after each whose length is not fixed, but the last.
     ///
+    /// ```
+    /// # use sicklespan::{Error, Level, Symbol};
+    /// let symbol = Symbol::elements(b"10ABC\x1d0109506000134352", Level::M)?;
+    /// assert_eq!(symbol, Symbol::gs1("(10)ABC(01)09506000134352", Level::M)?);
+    /// assert_eq!(Symbol::elements(b"10A B", Level::M), Err(Error::InvalidCharacter { place: 3 }));
+    /// # Ok::<(), Error>(())
+    /// ```
+    ///
     /// # Errors
     ///
     /// `InvalidCharacter` if a byte is no character of an element, nor 1D between two; then as
@@ -120,6 +128,14 @@ impl Symbol {
 
     /// Returns the symbol of GS1 elements that the options ask for, as `elements` says.
     ///
+    /// ```
+    /// # use sicklespan::{Level, Options, Symbol, Version};
+    /// let options = Options::new(Level::M).min_version(4);
+    /// let symbol = Symbol::elements_with(b"0109506000134352", &options)?;
+    /// assert_eq!(symbol.version(), Version::Normal(4));
+    /// # Ok::<(), sicklespan::Error>(())
+    /// ```
+    ///
     /// # Errors
     ///
     /// `InvalidVersions`; then as `elements`.
@@ -128,6 +144,15 @@ impl Symbol {
     }
 
     /// Returns the symbol of GS1 elements as people write them that the options ask for.
+    ///
+    /// ```
+    /// # use sicklespan::{Level, Options, Symbol};
+    /// let options = Options::new(Level::L).strongest();
+    /// let symbol = Symbol::gs1_with("(01)09506000134352", &options)?;
+    /// // 4 bits of FNC1, 14 and 54 of 16 digits: version 1 holds 72 at level H.
+    /// assert_eq!((symbol.width(), symbol.level()), (21, Level::H));
+    /// # Ok::<(), sicklespan::Error>(())
+    /// ```
     ///
     /// # Errors
     ///
@@ -138,6 +163,14 @@ impl Symbol {
 
     /// Returns the symbol of GS1 elements that the options ask for, as `gs1_unchecked` says.
     ///
+    /// ```
+    /// # use sicklespan::{Level, Options, Symbol, Version};
+    /// let options = Options::new(Level::M).min_version(2);
+    /// let symbol = Symbol::gs1_unchecked_with("(4399)x", &options)?;
+    /// assert_eq!(symbol.version(), Version::Normal(2));
+    /// # Ok::<(), sicklespan::Error>(())
+    /// ```
+    ///
     /// # Errors
     ///
     /// `InvalidVersions`; then as `gs1_unchecked`.
@@ -146,6 +179,16 @@ impl Symbol {
     }
 
     /// Returns the symbol of the GS1 Digital Link of elements that the options ask for.
+    ///
+    /// ```
+    /// # use sicklespan::{link_text, Level, Options, Symbol};
+    /// let options = Options::new(Level::L).strongest();
+    /// let text = "(01)09506000134352(10)ABC";
+    /// let link = link_text(text, "example.com/shop")?;
+    /// let symbol = Symbol::link_with(text, "example.com/shop", &options)?;
+    /// assert_eq!(symbol, Symbol::auto_with(&link, &options)?);
+    /// # Ok::<(), sicklespan::Error>(())
+    /// ```
     ///
     /// # Errors
     ///

@@ -23,6 +23,9 @@
 mod error;
 mod ffi;
 mod gs1;
+mod micro;
+mod modules;
+mod names;
 mod options;
 mod picture;
 mod sequences;
@@ -30,6 +33,7 @@ mod terminal;
 
 pub use error::{Error, Fault};
 pub use gs1::link_text;
+pub use names::{Level, Version};
 pub use options::Options;
 pub use picture::{Format, Settings};
 pub use sequences::{best_cuts, best_text_cuts};
@@ -43,51 +47,21 @@ pub fn version() -> &'static str {
     ffi::version()
 }
 
-/// How much damage can be corrected: about 7, 15, 25 and 30 percent of a symbol.
-#[derive(Clone, Copy, Debug, PartialEq, Eq, PartialOrd, Ord, Hash)]
-pub enum Level {
-    /// Low.
-    L = 0,
-    /// Medium.
-    M = 1,
-    /// Quartile.
-    Q = 2,
-    /// High; no Micro symbol has it.
-    H = 3,
-}
-
-impl Level {
-    const ALL: [Level; 4] = [Level::L, Level::M, Level::Q, Level::H];
-}
-
-/// Which symbol it is by its size.
-#[derive(Clone, Copy, Debug, PartialEq, Eq, PartialOrd, Ord, Hash)]
-pub enum Version {
-    /// M1 to M4, of 11, 13, 15 and 17 modules a side.
-    Micro(u8),
-    /// 1 to 40, of 21, 25 and so on to 177 modules a side.
-    Normal(u8),
-}
-
-impl Version {
-    /// The version whose symbols have this many modules a side, if there is one.
-    ///
-    /// ```
-    /// # use sicklespan::Version;
-    /// assert_eq!(Version::of_width(177), Some(Version::Normal(40)));
-    /// assert_eq!(Version::of_width(11), Some(Version::Micro(1)));
-    /// assert_eq!(Version::of_width(12), None);
-    /// ```
-    pub fn of_width(width: usize) -> Option<Version> {
-        match ffi::version_of_width(width) {
-            0 => None,
-            number if width < 21 => Some(Version::Micro(number as u8)),
-            number => Some(Version::Normal(number as u8)),
-        }
-    }
-}
-
-/// A symbol, which does not change. `Display` writes it for a terminal.
+/// A symbol, which does not change. `Display` writes it for a terminal, an index is a column and a
+/// row, and a loop goes over the rows from the top.
+///
+/// ```
+/// # use sicklespan::{Level, Symbol};
+/// let symbol = Symbol::new("hello", Level::M)?;
+/// // The finder patterns are in three corners.
+/// assert!(symbol[(0, 0)] && symbol[(20, 0)] && symbol[(0, 20)]);
+/// let mut dark = 0;
+/// for row in &symbol {
+///     dark += row.iter().filter(|module| **module).count();
+/// }
+/// assert_eq!(dark, symbol.modules().iter().filter(|module| **module).count());
+/// # Ok::<(), sicklespan::Error>(())
+/// ```
 #[derive(Clone, Debug, PartialEq, Eq, Hash)]
 pub struct Symbol {
     width: usize,
@@ -118,6 +92,11 @@ impl Symbol {
 
     /// Returns what `new` returns, by the name that the call has in C.
     ///
+    /// ```
+    /// # use sicklespan::{Level, Symbol};
+    /// assert_eq!(Symbol::auto("hello", Level::M), Symbol::new("hello", Level::M));
+    /// ```
+    ///
     /// # Errors
     ///
     /// As `new`.
@@ -129,6 +108,15 @@ impl Symbol {
     /// into which they fit. It does not say which characters they are, and pairs of them go in the
     /// Kanji mode: where they are UTF-8 beyond ASCII, readers may show other characters. `new` is
     /// for a text.
+    ///
+    /// ```
+    /// # use sicklespan::{Error, Level, Symbol};
+    /// // Version 40 holds 2953 bytes at level L.
+    /// assert_eq!(Symbol::bytes(&[0xff; 2953], Level::L)?.width(), 177);
+    /// let error = Error::DataTooLong { too_many: Some(1) };
+    /// assert_eq!(Symbol::bytes(&[0xff; 2954], Level::L), Err(error));
+    /// # Ok::<(), Error>(())
+    /// ```
     ///
     /// # Errors
     ///
@@ -194,6 +182,14 @@ impl Symbol {
 
     /// Returns the symbol of some bytes that the options ask for.
     ///
+    /// ```
+    /// # use sicklespan::{Level, Options, Symbol};
+    /// let options = Options::new(Level::L).strongest();
+    /// // Version 1 holds 7 bytes at level H, too.
+    /// assert_eq!(Symbol::bytes_with(b"7 bytes", &options)?.level(), Level::H);
+    /// # Ok::<(), sicklespan::Error>(())
+    /// ```
+    ///
     /// # Errors
     ///
     /// `InvalidVersions`; then as `bytes`, for the versions of the options.
@@ -204,6 +200,14 @@ impl Symbol {
     /// Returns the symbol of some bytes without the Kanji mode that the options ask for, as
     /// `bytes_without_kanji` says.
     ///
+    /// ```
+    /// # use sicklespan::{Level, Options, Symbol, Version};
+    /// let options = Options::new(Level::M).min_version(3);
+    /// let symbol = Symbol::bytes_without_kanji_with(&[0x93, 0x5f], &options)?;
+    /// assert_eq!(symbol.version(), Version::Normal(3));
+    /// # Ok::<(), sicklespan::Error>(())
+    /// ```
+    ///
     /// # Errors
     ///
     /// As `bytes_with`.
@@ -212,6 +216,13 @@ impl Symbol {
     }
 
     /// Returns the symbol of a text that the options ask for, as `auto` says.
+    ///
+    /// ```
+    /// # use sicklespan::{Level, Options, Symbol, Version};
+    /// let options = Options::new(Level::M).min_version(2).max_version(5);
+    /// assert_eq!(Symbol::auto_with("Grüße", &options)?.version(), Version::Normal(2));
+    /// # Ok::<(), sicklespan::Error>(())
+    /// ```
     ///
     /// # Errors
     ///
@@ -222,6 +233,15 @@ impl Symbol {
 
     /// Returns the symbol of a text that the options ask for, as `smallest_text` says.
     ///
+    /// ```
+    /// # use sicklespan::{Level, Options, Symbol};
+    /// let options = Options::new(Level::L).strongest();
+    /// // Version 1 holds 104 bits at level Q, and five Kanji take 77.
+    /// let symbol = Symbol::smallest_text_with("市北前倉東", &options)?;
+    /// assert_eq!((symbol.width(), symbol.level()), (21, Level::Q));
+    /// # Ok::<(), sicklespan::Error>(())
+    /// ```
+    ///
     /// # Errors
     ///
     /// `InvalidVersions`; then as `smallest_text`, for the versions of the options.
@@ -231,6 +251,15 @@ impl Symbol {
 
     /// Returns the symbol of a text that the options ask for, as `text` says.
     ///
+    /// ```
+    /// # use sicklespan::{Error, Level, Options, Symbol};
+    /// // Version 1 holds 16 bytes at level L after the 12 bits that say UTF-8.
+    /// let options = Options::new(Level::L).max_version(1);
+    /// assert!(Symbol::text_with("sixteen letters.", &options).is_ok());
+    /// let error = Error::DataTooLong { too_many: Some(1) };
+    /// assert_eq!(Symbol::text_with("seventeen letters", &options), Err(error));
+    /// ```
+    ///
     /// # Errors
     ///
     /// `InvalidVersions`; then as `text`.
@@ -238,88 +267,52 @@ impl Symbol {
         Symbol::asked(ffi::Content::Text, text.as_bytes(), options)
     }
 
-    /// Returns the best Micro symbol of some bytes, in the smallest of M1 to M4 into which they
-    /// fit. It does not say in which character set they are: of bytes that are not ASCII readers
-    /// may show other characters.
-    ///
-    /// ```
-    /// # use sicklespan::{Error, Level, Symbol, Version};
-    /// assert_eq!(Symbol::micro(b"12345", Level::L)?.version(), Version::Micro(1));
-    /// assert_eq!(Symbol::micro(b"12345", Level::H), Err(Error::InvalidLevel));
-    /// # Ok::<(), Error>(())
-    /// ```
-    ///
-    /// # Errors
-    ///
-    /// `InvalidLevel` for level H; then `DataTooLong` exactly where they fit none of them, and
-    /// `OutOfMemory`.
-    pub fn micro(bytes: &[u8], level: Level) -> Result<Symbol, Error> {
-        Symbol::drawn_micro(ffi::Content::Micro, bytes, level)
-    }
-
-    /// Returns the smallest Micro symbol of a text. It has no ECI designators: its characters are
-    /// those of ASCII alone, or those of the Kanji mode and of ASCII but `\` and `~`, for which
-    /// some readers show other signs there.
-    ///
-    /// ```
-    /// # use sicklespan::{Error, Level, Symbol, Version};
-    /// let text = "\u{5e02}\u{5317}\u{524d}\u{5009}\u{6771}";
-    /// assert_eq!(Symbol::micro_text(text, Level::L)?.version(), Version::Micro(3));
-    /// let error = Error::UnwritableText { place: 3 };
-    /// assert_eq!(Symbol::micro_text("caf\u{e9}", Level::L), Err(error));
-    /// # Ok::<(), Error>(())
-    /// ```
-    ///
-    /// # Errors
-    ///
-    /// `InvalidLevel` for level H; then `UnwritableText` only where no Micro symbol is read as
-    /// the text; then `DataTooLong` only where nothing that is read as it fits any of M1 to M4
-    /// at the level, and `OutOfMemory`.
-    pub fn micro_text(text: &str, level: Level) -> Result<Symbol, Error> {
-        Symbol::drawn_micro(ffi::Content::MicroText, text.as_bytes(), level)
-    }
-
     /// Returns the number of modules on a side.
+    ///
+    /// ```
+    /// # use sicklespan::{Level, Symbol};
+    /// assert_eq!(Symbol::new("hello", Level::M)?.width(), 21);
+    /// # Ok::<(), sicklespan::Error>(())
+    /// ```
     pub fn width(&self) -> usize {
         self.width
     }
 
     /// Returns the version.
+    ///
+    /// ```
+    /// # use sicklespan::{Level, Symbol};
+    /// // Version 1 holds 14 bytes at level M.
+    /// assert_eq!(Symbol::bytes(&[0xff; 14], Level::M)?.version().to_string(), "1");
+    /// assert_eq!(Symbol::bytes(&[0xff; 15], Level::M)?.version().to_string(), "2");
+    /// # Ok::<(), sicklespan::Error>(())
+    /// ```
     pub fn version(&self) -> Version {
         self.version
     }
 
     /// Returns the level: the one that was asked for, or a greater one of the strongest symbol.
+    ///
+    /// ```
+    /// # use sicklespan::{Level, Options, Symbol};
+    /// assert_eq!(Symbol::new("hello", Level::L)?.level(), Level::L);
+    /// let strongest = Options::new(Level::L).strongest();
+    /// assert_eq!(Symbol::auto_with("hello", &strongest)?.level(), Level::H);
+    /// # Ok::<(), sicklespan::Error>(())
+    /// ```
     pub fn level(&self) -> Level {
         self.level
     }
 
     /// Returns the number of the mask pattern: 0 to 7, or 0 to 3 of a Micro symbol.
-    pub fn mask(&self) -> u8 {
-        self.mask
-    }
-
-    /// Returns the modules, row by row from the upper left corner, `true` for a dark one, without
-    /// a quiet zone.
-    pub fn modules(&self) -> &[bool] {
-        &self.modules
-    }
-
-    /// Returns the rows of the modules from the top.
-    pub fn rows(&self) -> std::slice::ChunksExact<'_, bool> {
-        self.modules.chunks_exact(self.width)
-    }
-
-    /// Whether the module in column `x` of row `y` is dark; one outside the symbol is light.
     ///
     /// ```
     /// # use sicklespan::{Level, Symbol};
-    /// let symbol = Symbol::new("hello", Level::L)?;
-    /// assert!(symbol.is_dark(20, 0) && !symbol.is_dark(21, 0));
+    /// assert_eq!(Symbol::micro(b"12345", Level::L)?.mask(), 2);
     /// # Ok::<(), sicklespan::Error>(())
     /// ```
-    pub fn is_dark(&self, x: usize, y: usize) -> bool {
-        x < self.width && y < self.width && self.modules[y * self.width + x]
+    pub fn mask(&self) -> u8 {
+        self.mask
     }
 
     /// The symbol that a call with options draws.
@@ -327,14 +320,6 @@ impl Symbol {
         let options = options.numbers();
         Symbol::drawn(content, data, &options, |modules, shape| {
             ffi::symbol(content, data, &options, modules, shape)
-        })
-    }
-
-    /// The Micro symbol of bytes or of a text.
-    fn drawn_micro(content: ffi::Content, data: &[u8], level: Level) -> Result<Symbol, Error> {
-        let options = Options::new(level).numbers();
-        Symbol::drawn(content, data, &options, |modules, shape| {
-            ffi::micro(content, data, level as i32, modules, shape)
         })
     }
 

@@ -22,21 +22,50 @@ pub struct Options {
 
 impl Options {
     /// Returns the options of a level, with the versions 1 to 40.
+    ///
+    /// ```
+    /// # use sicklespan::{Level, Options};
+    /// assert_eq!(Options::new(Level::M), Options::default());
+    /// ```
     pub fn new(level: Level) -> Options {
         Options { level, min_version: 1, max_version: 40, strongest: false }
     }
 
     /// Returns the same options with another least version, 1 to 40.
+    ///
+    /// ```
+    /// # use sicklespan::{Error, Level, Options, Symbol};
+    /// let options = Options::new(Level::M).min_version(5);
+    /// assert_eq!(Symbol::auto_with("hello", &options)?.width(), 37);
+    /// let none = options.min_version(0);
+    /// assert_eq!(Symbol::auto_with("hello", &none), Err(Error::InvalidVersions));
+    /// # Ok::<(), Error>(())
+    /// ```
     pub fn min_version(self, min_version: u8) -> Options {
         Options { min_version, ..self }
     }
 
     /// Returns the same options with another greatest version, 1 to 40.
+    ///
+    /// ```
+    /// # use sicklespan::{Error, Level, Options, Symbol};
+    /// // Version 1 holds 14 bytes at level M.
+    /// let options = Options::new(Level::M).max_version(1);
+    /// let error = Error::DataTooLong { too_many: Some(2) };
+    /// assert_eq!(Symbol::auto_with("sixteen letters.", &options), Err(error));
+    /// ```
     pub fn max_version(self, max_version: u8) -> Options {
         Options { max_version, ..self }
     }
 
     /// Returns the same options, with the greatest level at which the symbol is no larger.
+    ///
+    /// ```
+    /// # use sicklespan::{Level, Options, Symbol};
+    /// let symbol = Symbol::auto_with("hello", &Options::new(Level::L).strongest())?;
+    /// assert_eq!((symbol.width(), symbol.level()), (21, Level::H));
+    /// # Ok::<(), sicklespan::Error>(())
+    /// ```
     pub fn strongest(self) -> Options {
         Options { strongest: true, ..self }
     }
