@@ -20,4 +20,4 @@ mod stop;
 mod whole;
 
 pub use files::Files;
-pub use runs::{LEFT_OUT, misused, run};
+pub use runs::{LEFT_OUT, is_drawn, misused, run};

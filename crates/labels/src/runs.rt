@@ -256,8 +256,9 @@ fn wrong_setting<E: Sink>(errors: &mut E, values: &Values, format: Format, setti
     misused(errors, misuse, values.wrong_value(misuse))
 }
 
-/// Whether there are labels: of all, or of each line that was not left out.
-fn is_drawn(status: u8) -> bool
+/// Whether there are labels by an exit status of `run`: of all, or of each line that was not left
+/// out.
+pub fn is_drawn(status: u8) -> bool
     ensures { result ≡ is_drawn status }
 {
     status == 0 || status == LEFT_OUT

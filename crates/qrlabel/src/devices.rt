@@ -1,15 +1,19 @@
 //! The devices that the words name: files, and the input and output of the process.
 //!
-//! Which file has a name no contract can say: `run` has the contract, for the devices that it
-//! is given.
-ghost use Rattle.std.specs.Prelude.{◌≡◌, ◌⊎◌, IsFalse, true};
+//! Which file has a name, and what it has, no contract can say. So the contracts here are those of
+//! `run` for some devices, and say what becomes of the status and of standard error.
+ghost use Rattle.std.specs.Prelude.{◌≡◌, if◌then◌else◌, IsTrue, IsFalse, None, Some};
+ghost use Rattle.programs.specs.Devices.{input, output};
 ghost use Rattle.label_words.specs.CommandOutcomes.{is_document};
-ghost use Rattle.labels.specs.declared.runs.TheConstants.{LEFT_OUT};
+ghost use Rattle.label_words.specs.Values.{said};
+ghost use Rattle.labels.specs.Runs.{is_drawn};
+ghost use Rattle.qrlabel.specs.Exits.{exit_status, lacks_page, Ends, Exits, Finishes, Stays};
+ghost use Rattle.qrlabel.specs.Exits.{DeliversTo, RunsDevice, RunsInput, RunsOn, Serves};
 
 use crate::folder::Folder;
 use crate::progress::Counting;
 use label_words::{Command, Label, Name, Portion, Values, command_of, is_document};
-use labels::{LEFT_OUT, misused, run};
+use labels::{LEFT_OUT, is_drawn, misused, run};
 use programs::{
     Fault, FromReader, FromWriter, Gathered, ReportingSink, ReportingSource, Sink, WholeFile, Word,
     report, report_device, write_word_line,
@@ -25,14 +29,14 @@ type Numbers = Gathered<FromWriter<Stderr>>;
 /// is 1 if lines were left out.
 pub fn run_on_devices<E: Sink>(rt: &HostRuntime, values: &Values, errors: &mut E) -> u8
     requires sound { IsFalse (E.state errors.old).failed }
+    ensures { Exits (said values.now) (E.state errors.old) (E.state errors.new) result }
 {
     exit_status(run_command(rt, values, errors))
 }
 
 /// Returns the exit status of the process: 1 if lines were left out, else the status of `run`.
 fn exit_status(status: u8) -> u8
-    ensures left_out { status ≡ LEFT_OUT → result ≡ 1 }
-    ensures same { (status ≡ LEFT_OUT → ⊥) → result ≡ status }
+    ensures { result ≡ exit_status status }
 {
     match status {
         LEFT_OUT => 1,
@@ -40,9 +44,11 @@ fn exit_status(status: u8) -> u8
     }
 }
 
-/// Does what the words ask for with the devices that they name, and returns the status of `run`.
+/// Does what the words ask for with the devices that they name, and returns the status of `run`, or
+/// that of an error of a device.
 fn run_command<E: Sink>(rt: &HostRuntime, values: &Values, errors: &mut E) -> u8
     requires sound { IsFalse (E.state errors.old).failed }
+    ensures { Serves (said values.now) (E.state errors.old) (E.state errors.new) result }
 {
     let mut stdout = rt.stdout();
     let on_terminal = stdout.is_terminal();
@@ -71,12 +77,10 @@ fn is_one_output(label: &Label) -> bool {
 /// Returns the status of `run`, or 1 where the labels of lines are the pages of a document that has
 /// none, which standard error says.
 fn paged<W, E: Sink>(label: &Label, writer: &Counting<W, Numbers>, status: u8, errors: &mut E) -> u8
-    ensures kept { (status ≡ 0 → ⊥) → (status ≡ LEFT_OUT → ⊥) → result ≡ status }
-    ensures done { result ≡ 0 → status ≡ 0 }
-    ensures pages { is_document label.now ≡ true → writer.now.count ≡ 0 → result ≡ 0 → ⊥ }
+    ensures status { result ≡ (if lacks_page status label.now writer.now.count then 1 else status) }
+    ensures ends { Ends label.now None (E.state errors.old) (E.state errors.new) status result }
 {
-    let is_done = status == 0 || status == LEFT_OUT;
-    if !is_done || !is_document(label) || !writer.is_unused() {
+    if !is_drawn(status) || !is_document(label) || !writer.is_unused() {
         return status;
     }
     if !errors.failed() {
@@ -110,6 +114,9 @@ fn from_input<W: ReportingSink, E: Sink>(
 ) -> u8
     requires writer_sound { IsFalse (W.state writer.old).failed }
     requires errors_sound { IsFalse (E.state errors.old).failed }
+    ensures { RunsInput (said values.now) on_terminal
+        (output (W.state writer.old) (W.state writer.new))
+        (output (E.state errors.old) (E.state errors.new)) result }
 {
     if let Some(text) = values.get(Name::Text) {
         let mut bytes = text.as_bytes();
@@ -145,6 +152,9 @@ fn from_device<R: Read + Drop, W: ReportingSink, E: Sink>(
 ) -> u8
     requires writer_sound { IsFalse (W.state writer.old).failed }
     requires errors_sound { IsFalse (E.state errors.old).failed }
+    ensures { RunsDevice (said values.now) on_terminal
+        (output (W.state writer.old) (W.state writer.new))
+        (output (E.state errors.old) (E.state errors.new)) result }
 {
     if !values.has(Name::Lines) {
         let mut reader = FromReader::new(device);
@@ -171,6 +181,10 @@ fn run_from<R: ReportingSource, W: ReportingSink, E: Sink>(
     requires reader_sound { IsFalse (R.state reader.old).failed }
     requires writer_sound { IsFalse (W.state writer.old).failed }
     requires errors_sound { IsFalse (E.state errors.old).failed }
+    ensures { RunsOn (said values.now) on_terminal
+        (input (R.state reader.old) (R.state reader.new))
+        (output (W.state writer.old) (W.state writer.new))
+        (output (E.state errors.old) (E.state errors.new)) result }
 {
     let mut files = counting(rt, Folder::new(rt), false);
     run(
@@ -196,6 +210,8 @@ fn into_named<W: ReportingSink, E: Sink>(
 ) -> u8
     requires stdout_sound { IsFalse (W.state stdout.old.labels).failed }
     requires errors_sound { IsFalse (E.state errors.old).failed }
+    ensures { DeliversTo (said values.now) label.now (Some path.now)
+        (E.state errors.old) (E.state errors.new) result }
 {
     match path {
         "/dev/stdout" | "/dev/fd/1" | "/proc/self/fd/1" => {
@@ -221,6 +237,8 @@ fn into_file<E: Sink>(
     errors: &mut E,
 ) -> u8
     requires { IsFalse (E.state errors.old).failed }
+    ensures { DeliversTo (said values.now) label.now (Some path.now)
+        (E.state errors.old) (E.state errors.new) result }
 {
     let whole = match WholeFile::create(rt, path, "qrlabel") {
         Ok(whole) => whole,
@@ -235,11 +253,14 @@ fn into_file<E: Sink>(
 }
 
 /// Ends a file after the status of `run`, and returns that status, or that of an error of the file.
+/// The file gets its name only if there are labels.
 fn close<E: Sink>(whole: WholeFile, status: u8, path: &str, errors: &mut E) -> u8
-    ensures kept { (status ≡ 0 → ⊥) → (status ≡ LEFT_OUT → ⊥) → result ≡ status }
-    ensures done { result ≡ 0 → status ≡ 0 }
+    ensures discarded { IsFalse (is_drawn status) →
+        Stays (E.state errors.old) (E.state errors.new) status result }
+    ensures finished { IsTrue (is_drawn status) →
+        Finishes path.now (E.state errors.old) (E.state errors.new) status result }
 {
-    if status != 0 && status != LEFT_OUT {
+    if !is_drawn(status) {
         whole.discard();
         return status;
     }
@@ -247,10 +268,10 @@ fn close<E: Sink>(whole: WholeFile, status: u8, path: &str, errors: &mut E) -> u
 }
 
 /// Gives a file that is whole its name, and returns the status, or that of an error. No file gets
-/// its name after another status.
+/// its name after a status without labels.
 fn finish<E: Sink>(whole: WholeFile, status: u8, path: &str, errors: &mut E) -> u8
-    requires whole { (status ≡ 0) ⊎ (status ≡ LEFT_OUT) }
-    ensures done { result ≡ 0 → status ≡ 0 }
+    requires labels { IsTrue (is_drawn status) }
+    ensures { Finishes path.now (E.state errors.old) (E.state errors.new) status result }
 {
     match whole.finish() {
         Ok(()) => status,
